@@ -1,0 +1,3 @@
+pub mod Reading
+pub mod Sevens
+pub mod Writing
