@@ -1,6 +1,6 @@
 -- 01, "Events and numbers on the line": a number is written in groups of seven bits, lowest group first, the top bit set on all octets but the
 -- last, in the shortest form only.
-use Prim.Native.Nat.{ℕ, zero, suc, _+_, _*_, _/_, _%_, _^_, _≤_}
+use Prim.Native.Nat.{ℕ, zero, suc, _+_, _*_, _/_, _%_, _^_, _≤_, _<_}
 use mathlib.Core.Path.{_≡_}
 use mathlib.Core.List.{List, [], _∷_, _++_}
 use lib.ListN.{length, getD, drop}
@@ -53,6 +53,10 @@ groupsAt (suc k) s at = pick (ltb at (length s)) (octet (getD s at 0) at (groups
 -- the number at a place, if it is at most max
 abbrev pub numberAt : List ℕ → ℕ → ℕ → Num
 numberAt s at max = withNum Bad (groupsAt 6 s at) λ v next. pick (leb v max) (Value v next) Bad
+
+-- every element is an octet
+abbrev pub Octets : List ℕ → Type 0
+Octets s = (i : ℕ) → getD s i 0 < 256
 
 -- the octets of n stand at a place, up to next, and n is at most max
 pub record Stands (s : List ℕ) (at max n next : ℕ) : Type 0 where

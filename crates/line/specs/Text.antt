@@ -41,3 +41,9 @@ pub record TextStands (s : List ℕ) (at lo hi start end : ℕ) : Type 0 where
   pub here : drop at s ≡ textOctets (between s start end) ++ drop end s
   pub first : start ≡ at + length (encode (length (between s start end)))
   pub last : end ≡ start + length (between s start end)
+
+-- lo to hi octets of s, from start to end
+pub record Inside (s : List ℕ) (lo hi start end : ℕ) : Type 0 where
+  pub least : start + lo ≤ end
+  pub most : end ≤ start + hi
+  pub inside : end ≤ length s
