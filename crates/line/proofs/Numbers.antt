@@ -13,7 +13,8 @@ use lib.Dec.{ltb, eqb, lit<}
 use borrow.Author.Tests.{lt-ltb, le-ltb, ltb-true, ltb-false, eqb-false, ne-eqb, le-leb, leb-true}
 use Rattle.flow.specs.Choice.{pick}
 use Rattle.flow.proofs.Choices.{yes-back}
-use Rattle.line.specs.Number.{RANGE, TIME, EXPIRY, Octets, encodeIn, encode, withNum, octet, groupsAt, numberAt, Stands}
+use Rattle.line.specs.Ranges.{RANGE, TIME, EXPIRY}
+use Rattle.line.specs.Number.{Octets, encodeIn, encode, withNum, octet, groupsAt, numberAt, Stands}
 use Rattle.line.specs.declared.Num.{Num}
 use Rattle.line.specs.declared.Num.the-variants.{Value, Bad}
 use Rattle.line.proofs.Writing.{encode-last, encode-more}

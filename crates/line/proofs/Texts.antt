@@ -9,7 +9,8 @@ use lib.Seq.{drop-drop, drop-append-seam, take-append-seam}
 use borrow.Author.Tests.{ltb-false, leb-true}
 use Rattle.flow.specs.Front.{_▹_}
 use Rattle.flow.proofs.Choices.{by-ge, by-le, yes-back, no-back}
-use Rattle.line.specs.Number.{RANGE, Octets, encode, groupsAt, numberAt}
+use Rattle.line.specs.Ranges.{RANGE}
+use Rattle.line.specs.Number.{Octets, encode, groupsAt, numberAt}
 use Rattle.line.specs.Text.{textOctets, octetsAt, textAt, between, TextStands, Inside}
 use Rattle.line.specs.declared.Num.the-variants.{Value, Bad as NoNum}
 use Rattle.line.specs.declared.Span.the-variants.{At, Bad}

@@ -1,6 +1,6 @@
 -- 01, "Events and numbers on the line": a number is written in groups of seven bits, lowest group first, the top bit set on all octets but the
 -- last, in the shortest form only.
-use Prim.Native.Nat.{ℕ, zero, suc, _+_, _*_, _/_, _%_, _^_, _≤_, _<_}
+use Prim.Native.Nat.{ℕ, zero, suc, _+_, _*_, _/_, _%_, _≤_, _<_}
 use mathlib.Core.Path.{_≡_}
 use mathlib.Core.List.{List, [], _∷_, _++_}
 use lib.ListN.{length, getD, drop}
@@ -8,21 +8,6 @@ use lib.Dec.{ltb, leb, eqb}
 use Rattle.flow.specs.Choice.{pick}
 use Rattle.line.specs.declared.Num.{Num}
 use Rattle.line.specs.declared.Num.the-variants.{Value, Bad}
-
--- every number on the line is below this: it has at most six groups
-abbrev pub RANGE : ℕ
-RANGE = 128 ^ 6
-
--- 01, "Ranges": the highest time and timestamp; the highest restart, run and application
-abbrev pub TIME : ℕ
-TIME = 999999999999
-
-abbrev pub WORD : ℕ
-WORD = 4294967295
-
--- 01, "What goes back": the highest expiry
-abbrev pub EXPIRY : ℕ
-EXPIRY = 1000000604799
 
 -- the octets of n, of which at most k stand before the last
 unfoldable pub encodeIn : ℕ → ℕ → List ℕ

@@ -5,7 +5,8 @@ ghost use mathlib.Core.List.{[], _∷_};
 ghost use Prim.Native.Nat.{_+_, _≤_, _<_, _^_};
 ghost use lib.ListN.{length};
 ghost use Rattle.flow.specs.Front.{Wrote, Put};
-ghost use Rattle.line.specs.Number.{RANGE, encodeIn, encode, groupsAt, numberAt};
+ghost use Rattle.line.specs.Ranges.{RANGE};
+ghost use Rattle.line.specs.Number.{encodeIn, encode, groupsAt, numberAt};
 ghost use Rattle.line.specs.Text.{octetsAt, textAt};
 ghost use Rattle.line.specs.Name.{nameAt, nafIdAt};
 
@@ -18,8 +19,33 @@ pub const WORD: u64 = 4294967295;
 // The longest IMPI, peer, FQDN and BSF domain.
 pub const NAME: u64 = 64;
 
-// The octets of a Ua security protocol identifier, which end a NAF_Id.
+// The longest B-TID: 24 letters, "@" and a BSF domain.
+pub const BTID: u64 = NAME + 25;
+
+// The octets of a Ua security protocol identifier; a NAF_Id is an FQDN and then these.
 pub const UA: u64 = 5;
+
+// The shortest and the longest XRES and RES.
+pub const RES_LEAST: u64 = 4;
+
+pub const RES_MOST: u64 = 16;
+
+// The octets of RAND, AUTN, CK and IK each.
+pub const BARE: usize = 16;
+
+// The shortest and the longest lifetime, in seconds.
+pub const LIFETIME_LEAST: u64 = 60;
+
+pub const LIFETIME_MOST: u64 = 604800;
+
+// Settings: the most entries; of an entry the highest group, the octets of its flags, the longest user name.
+pub const ENTRIES: u64 = 4;
+
+pub const GROUP: u64 = 255;
+
+pub const FLAGS: usize = 4;
+
+pub const USER: u64 = 32;
 
 // The most octets of a number.
 const GROUPS: usize = 6;
