@@ -17,7 +17,7 @@ use Rattle.line.specs.Ranges.{RANGE, TIME, EXPIRY}
 use Rattle.line.specs.Number.{Octets, encodeIn, encode, withNum, octet, groupsAt, numberAt, Stands}
 use Rattle.line.specs.declared.Num.{Num}
 use Rattle.line.specs.declared.Num.the-variants.{Value, Bad}
-use Rattle.line.proofs.Writing.{encode-last, encode-more}
+use Rattle.line.proofs.Writing.{encode-last, encode-more, in-range}
 use Rattle.line.proofs.Reading.{num-back, no-num}
 
 -- every time and every expiry is a number of the line
@@ -74,7 +74,9 @@ groups-read (suc k) n s at t h e = go (ltb n 128) refl (λ n at. groups-read k n
 
 pub number-read : (n max : ℕ) (s : List ℕ) (at : ℕ) (t : List ℕ) → n ≤ max → max < RANGE → drop at s ≡ encode n ++ t → numberAt s at max ≡ Value n (at + length (encode n))
 unfolding withNum pick
-number-read n max s at t h m e = simp (groups-read 5 n s at t (omega arith) e, le-leb _ _ h)
+number-read n max s at t h m e =
+    let c = in-range n (omega arith) in
+    rw c (simp (groups-read 5 n s at t (omega arith) (rw c at e), le-leb _ _ h))
 
 -- ---- what is read was written
 
@@ -147,7 +149,8 @@ number-written s at max n next b e =
     let p : r .v ≡ n = cc in
     let q : r .next ≡ next = cc in
     let w = written 5 s at n next b (r .read ∙ ap₂ Value p q) in
-    record { most = omega (arith, leb-true (r .v) max (y .0)); here = w .here; long = w .long }
+    let c = in-range n (w .fits) in
+    record { most = omega (arith, leb-true (r .v) max (y .0)); here = rw c (w .here); long = rw c (w .long) }
 
 -- reading finds n exactly where the octets of n stand and n is in range
 pub number-iff : (s : List ℕ) (at max n next : ℕ) → Octets s → max < RANGE → (numberAt s at max ≡ Value n next) ↔ Stands s at max n next
@@ -159,6 +162,6 @@ number-iff s at max n next b h = (
 -- no number's octets begin another's
 pub number-apart : (n m : ℕ) (t u : List ℕ) → n < RANGE → m < RANGE → encode n ++ t ≡ encode m ++ u → n ≡ m
 number-apart n m t u hn hm e =
-    let a = groups-read 5 n (encode n ++ t) 0 t hn refl in
-    let b = groups-read 5 m (encode n ++ t) 0 u hm e in
+    let a = groups-read 5 n (encode n ++ t) 0 t hn (ap (λ (x : List ℕ). x ++ t) (in-range n hn)) in
+    let b = groups-read 5 m (encode n ++ t) 0 u hm (e ∙ ap (λ (x : List ℕ). x ++ u) (in-range m hm)) in
     cc

@@ -14,9 +14,9 @@ unfoldable pub encodeIn : ℕ → ℕ → List ℕ
 encodeIn zero n = n ∷ []
 encodeIn (suc k) n = pick (ltb n 128) (n ∷ []) ((128 + n % 128) ∷ encodeIn k (n / 128))
 
--- the octets of a number in range
+-- the octets of a number: six at most where it is in range, and ten for any of 64 bits, which a state that no history made may hold
 abbrev pub encode : ℕ → List ℕ
-encode n = encodeIn 5 n
+encode n = encodeIn 9 n
 
 -- goes on with the number that was read and the place after it, or ends with the answer for a bad one
 unfoldable pub withNum : {A : Type 0} → A → Num → (ℕ → ℕ → A) → A

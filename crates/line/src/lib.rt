@@ -5,7 +5,6 @@ ghost use mathlib.Core.List.{[], _∷_};
 ghost use Prim.Native.Nat.{_+_, _≤_, _<_, _^_};
 ghost use lib.ListN.{length};
 ghost use Rattle.flow.specs.Front.{Wrote, Put};
-ghost use Rattle.line.specs.Ranges.{RANGE};
 ghost use Rattle.line.specs.Number.{encodeIn, encode, groupsAt, numberAt};
 ghost use Rattle.line.specs.Text.{octetsAt, textAt};
 ghost use Rattle.line.specs.Name.{nameAt, nafIdAt};
@@ -47,8 +46,10 @@ pub const FLAGS: usize = 4;
 
 pub const USER: u64 = 32;
 
-// The most octets of a number.
+// The most octets of a number that is read, and of one of 64 bits that is written.
 const GROUPS: usize = 6;
+
+const WRITTEN: usize = 10;
 
 // What reading a number finds: its value, and the place after it.
 pub enum Num {
@@ -156,16 +157,14 @@ fn put_groups(out: &mut [u8], k: usize, n: u64) -> usize
 
 // Writes a number at the front, and returns how many octets it takes.
 pub fn put_number(out: &mut [u8], n: u64) -> usize
-    requires { ⌜ n < RANGE ⌝ }
     requires { ⌜ length (encode n) ≤ length (now out) ⌝ }
     ensures { λ r. ⌜ Wrote (encode n) r (now (out .entry)) (now (out .exit)) ⌝ }
 {
-    put_groups(out, GROUPS - 1, n)
+    put_groups(out, WRITTEN - 1, n)
 }
 
 // A field at a place of the buffer; each of the three returns the place after it. A number:
 pub fn put_number_at(out: &mut [u8], at: usize, n: u64) -> usize
-    requires { ⌜ n < RANGE ⌝ }
     requires { ⌜ at + length (encode n) ≤ length (now out) ⌝ }
     ensures { λ r. ⌜ Put (encode n) at r (now (out .entry)) (now (out .exit)) ⌝ }
 {
