@@ -1,0 +1,28 @@
+-- The letters are those of the definition, and four octets are written.
+use borrow.Author.Needs.{needs}
+use Rattle.base64.proofs.Laws.{wrote-as}
+use Rattle.base64.proofs.put_one.Statement.{statement}
+use Rattle.base64.proofs.put_one.Tie as tie
+
+letter-requires : tie.Need-letter-requires
+letter-requires c κs = search needs
+
+mul-letter : tie.Need-mul-letter
+mul-letter c = search needs
+
+letter-requires-2 : tie.Need-letter-requires-2
+letter-requires-2 c κs = search needs
+
+put-four-requires : tie.Need-put-four-requires
+put-four-requires c κs = search needs
+
+same-length : tie.Need-same-length
+same-length c = search needs
+
+returns : tie.Need-returns
+returns c = wrote-as (cc) (c .before .before .put-four .ensures)
+
+pub put-one-spec : {M : Type 1} → statement M
+put-one-spec =
+    tie.close
+    (tie.spec letter-requires mul-letter letter-requires-2 put-four-requires same-length returns)
