@@ -15,10 +15,12 @@ use rounds::Hash;
 
 // The longest message, and the length of a digest.
 pub const LIMIT: usize = 1048576;
+
 pub const DIGEST: usize = 32;
 
 // The refusals: a buffer too short for the answer, and a message too long.
 pub const SHORT: u32 = 2;
+
 pub const FORM: u32 = 3;
 
 // The hash value before the first block.

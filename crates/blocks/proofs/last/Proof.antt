@@ -1,12 +1,12 @@
 use mathlib.Core.Path.{_≡_, refl, sym, ap, _∙_}
 use mathlib.Core.Logic.{⊎-elim}
-use mathlib.Core.List.{List, [], _∷_, _++_}
-use Prim.Native.Nat.{ℕ, _+_, _-_, _≤_, _<_}
+use mathlib.Core.List.{_++_}
+use Prim.Native.Nat.{ℕ, _+_, _-_, _≤_}
 use native.Mathlib.Omega.{arith}
 use borrow.Author.Needs.{needs}
-use lib.ListN.{length, length-append, getD, List·getD-append, take, drop, set, length-set}
+use lib.ListN.{length, length-append, getD, List·getD-append, take, drop}
 use lib.Seq.{take-all}
-use Rattle.blocks.specs.Blocks.{padding, zeros}
+use Rattle.blocks.specs.Blocks.{padding}
 use Rattle.blocks.proofs.Lists.{getD-right, turn}
 use Rattle.blocks.proofs.Padding.{length-padding}
 use Rattle.blocks.proofs.last.Statement.{statement}

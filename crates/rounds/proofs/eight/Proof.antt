@@ -1,75 +1,55 @@
 use native.Mathlib.Nat.{add-assoc}
 use mathlib.Core.Path.{ap, _∙_}
 use Rattle.rounds.specs.Compress.{rounds}
-use native.Mathlib.Omega.{arith}
 use borrow.Author.Needs.{needs}
 use Rattle.rounds.proofs.eight.Statement.{statement}
 use Rattle.rounds.proofs.eight.Tie as tie
-use Rattle.rounds.proofs.eight.Reads as reads
-use Rattle.rounds.proofs.eight.Lts as lts
-use Rattle.rounds.proofs.step.Reads as step-reads
 
--- src/lib.rt:225:9
 step-requires : tie.Need-step-requires
 step-requires c κs = search needs
 
--- src/lib.rt:226:29
 add-step : tie.Need-add-step
 add-step c = search needs
 
--- src/lib.rt:226:9
 step-requires-2 : tie.Need-step-requires-2
 step-requires-2 c κs = search needs
 
--- src/lib.rt:227:29
 add-step-2 : tie.Need-add-step-2
 add-step-2 c = search needs
 
--- src/lib.rt:227:9
 step-requires-3 : tie.Need-step-requires-3
 step-requires-3 c κs = search needs
 
--- src/lib.rt:228:29
 add-step-3 : tie.Need-add-step-3
 add-step-3 c = search needs
 
--- src/lib.rt:228:9
 step-requires-4 : tie.Need-step-requires-4
 step-requires-4 c κs = search needs
 
--- src/lib.rt:229:29
 add-step-4 : tie.Need-add-step-4
 add-step-4 c = search needs
 
--- src/lib.rt:229:9
 step-requires-5 : tie.Need-step-requires-5
 step-requires-5 c κs = search needs
 
--- src/lib.rt:230:29
 add-step-5 : tie.Need-add-step-5
 add-step-5 c = search needs
 
--- src/lib.rt:230:9
 step-requires-6 : tie.Need-step-requires-6
 step-requires-6 c κs = search needs
 
--- src/lib.rt:231:29
 add-step-6 : tie.Need-add-step-6
 add-step-6 c = search needs
 
--- src/lib.rt:231:9
 step-requires-7 : tie.Need-step-requires-7
 step-requires-7 c κs = search needs
 
--- src/lib.rt:232:20
 add-step-7 : tie.Need-add-step-7
 add-step-7 c = search needs
 
--- src/lib.rt:232:5
 step-requires-8 : tie.Need-step-requires-8
 step-requires-8 c κs = search needs
 
--- src/lib.rt:221:1
 returns : tie.Need-returns
 returns c =
     let p8 = c in

@@ -3,23 +3,16 @@ use native.Mathlib.Omega.{arith}
 use borrow.Author.Needs.{needs}
 use Rattle.rounds.proofs.grow.Statement.{statement}
 use Rattle.rounds.proofs.grow.Tie as tie
-use Rattle.rounds.proofs.grow.Reads as reads
-use Rattle.rounds.proofs.grow.Lts as lts
-use Rattle.rounds.proofs.next.Reads as next-reads
 
--- src/lib.rt:143:9
 next-requires : tie.Need-next-requires
 next-requires c κs = search needs
 
--- src/lib.rt:144:5
 mul-w : tie.Need-mul-w
 mul-w c = search needs
 
--- src/lib.rt:144:5
 element-write-w : tie.Need-element-write-w
 element-write-w c = search needs
 
--- src/lib.rt:139:1
 returns : tie.Need-returns
 returns c = λ b s. let a = c .before .before .args in later-word b (a .t) (a .w .now) _ (omega arith) (omega arith) s (c .next .ensures)
 

@@ -1,74 +1,54 @@
 use native.Mathlib.Nat.{add-assoc}
 use Rattle.rounds.proofs.Words.{moved}
-use native.Mathlib.Omega.{arith}
 use borrow.Author.Needs.{needs}
 use Rattle.rounds.proofs.grow8.Statement.{statement}
 use Rattle.rounds.proofs.grow8.Tie as tie
-use Rattle.rounds.proofs.grow8.Reads as reads
-use Rattle.rounds.proofs.grow8.Lts as lts
-use Rattle.rounds.proofs.grow.Reads as grow-reads
 
--- src/lib.rt:152:5
 grow-requires : tie.Need-grow-requires
 grow-requires c κs = search needs
 
--- src/lib.rt:153:13
 add-grow : tie.Need-add-grow
 add-grow c = search needs
 
--- src/lib.rt:153:5
 grow-requires-2 : tie.Need-grow-requires-2
 grow-requires-2 c κs = search needs
 
--- src/lib.rt:154:13
 add-grow-2 : tie.Need-add-grow-2
 add-grow-2 c = search needs
 
--- src/lib.rt:154:5
 grow-requires-3 : tie.Need-grow-requires-3
 grow-requires-3 c κs = search needs
 
--- src/lib.rt:155:13
 add-grow-3 : tie.Need-add-grow-3
 add-grow-3 c = search needs
 
--- src/lib.rt:155:5
 grow-requires-4 : tie.Need-grow-requires-4
 grow-requires-4 c κs = search needs
 
--- src/lib.rt:156:13
 add-grow-4 : tie.Need-add-grow-4
 add-grow-4 c = search needs
 
--- src/lib.rt:156:5
 grow-requires-5 : tie.Need-grow-requires-5
 grow-requires-5 c κs = search needs
 
--- src/lib.rt:157:13
 add-grow-5 : tie.Need-add-grow-5
 add-grow-5 c = search needs
 
--- src/lib.rt:157:5
 grow-requires-6 : tie.Need-grow-requires-6
 grow-requires-6 c κs = search needs
 
--- src/lib.rt:158:13
 add-grow-6 : tie.Need-add-grow-6
 add-grow-6 c = search needs
 
--- src/lib.rt:158:5
 grow-requires-7 : tie.Need-grow-requires-7
 grow-requires-7 c κs = search needs
 
--- src/lib.rt:159:13
 add-grow-7 : tie.Need-add-grow-7
 add-grow-7 c = search needs
 
--- src/lib.rt:159:5
 grow-requires-8 : tie.Need-grow-requires-8
 grow-requires-8 c κs = search needs
 
--- src/lib.rt:148:1
 returns : tie.Need-returns
 returns c =
     let p8 = c in

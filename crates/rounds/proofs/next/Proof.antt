@@ -1,83 +1,59 @@
 use Rattle.rounds.specs.Compress.{mixed}
-use native.Mathlib.Omega.{arith}
 use borrow.Author.Needs.{needs}
 use Rattle.rounds.proofs.next.Statement.{statement}
 use Rattle.rounds.proofs.next.Tie as tie
-use Rattle.rounds.proofs.next.Reads as reads
-use Rattle.rounds.proofs.next.Lts as lts
-use Rattle.rounds.proofs.small0.Reads as small0-reads
-use Rattle.rounds.proofs.small1.Reads as small1-reads
-use Rattle.std.proofs.num.wrapping_add_u32.Reads as wrapping-add-u32-reads
 
--- src/lib.rt:133:28
 sub-small1 : tie.Need-sub-small1
 sub-small1 c = search needs
 
--- src/lib.rt:133:26
 mul-small1 : tie.Need-mul-small1
 mul-small1 c = search needs
 
--- src/lib.rt:133:26
 element-copy-out-small1 : tie.Need-element-copy-out-small1
 element-copy-out-small1 c = search needs
 
--- src/lib.rt:133:19
 small1-requires : tie.Need-small1-requires
 small1-requires c κs = search needs
 
--- src/lib.rt:133:39
 sub-wrapping-add-u32 : tie.Need-sub-wrapping-add-u32
 sub-wrapping-add-u32 c = search needs
 
--- src/lib.rt:133:37
 mul-wrapping-add-u32 : tie.Need-mul-wrapping-add-u32
 mul-wrapping-add-u32 c = search needs
 
--- src/lib.rt:133:37
 element-copy-out-wrapping-add-u32 : tie.Need-element-copy-out-wrapping-add-u32
 element-copy-out-wrapping-add-u32 c = search needs
 
--- src/lib.rt:133:14
 wrapping-add-u32-requires : tie.Need-wrapping-add-u32-requires
 wrapping-add-u32-requires c κs = search needs
 
--- src/lib.rt:133:57
 sub-small0 : tie.Need-sub-small0
 sub-small0 c = search needs
 
--- src/lib.rt:133:55
 mul-small0 : tie.Need-mul-small0
 mul-small0 c = search needs
 
--- src/lib.rt:133:55
 element-copy-out-small0 : tie.Need-element-copy-out-small0
 element-copy-out-small0 c = search needs
 
--- src/lib.rt:133:48
 small0-requires : tie.Need-small0-requires
 small0-requires c κs = search needs
 
--- src/lib.rt:133:9
 wrapping-add-u32-requires-2 : tie.Need-wrapping-add-u32-requires-2
 wrapping-add-u32-requires-2 c κs = search needs
 
--- src/lib.rt:134:11
 sub-wrapping-add-u32-2 : tie.Need-sub-wrapping-add-u32-2
 sub-wrapping-add-u32-2 c = search needs
 
--- src/lib.rt:134:9
 mul-wrapping-add-u32-2 : tie.Need-mul-wrapping-add-u32-2
 mul-wrapping-add-u32-2 c = search needs
 
--- src/lib.rt:134:9
 element-copy-out-wrapping-add-u32-2 : tie.Need-element-copy-out-wrapping-add-u32-2
 element-copy-out-wrapping-add-u32-2 c = search needs
 
--- src/lib.rt:132:5
 wrapping-add-u32-requires-3 : tie.Need-wrapping-add-u32-requires-3
 wrapping-add-u32-requires-3 c κs = search needs
 
--- src/lib.rt:128:1
 returns : tie.Need-returns
 unfolding mixed
 returns c = cc

@@ -7,10 +7,6 @@ use borrow.Author.Needs.{needs}
 use native.Mathlib.Omega.{arith}
 use Rattle.rounds.proofs.schedule.Statement.{statement}
 use Rattle.rounds.proofs.schedule.Tie as tie
-use Rattle.rounds.proofs.schedule.Reads as reads
-use Rattle.rounds.proofs.schedule.Lts as lts
-use Rattle.blocks.proofs.word.Reads as word-reads
-use Rattle.rounds.proofs.grow8.Reads as grow8-reads
 
 abbrev Inv-loop : tie.InvT-loop
 Inv-loop b w₀ t₀ w t = (t ≤ 16) × Scheduled b t w
@@ -24,58 +20,45 @@ Inv-loop2 b w₀ t₀ w t = (16 ≤ t) × (t ≤ 64) × (t % 8 ≡ 0) × Schedul
 abbrev μ-loop2 : tie.MeasureT-loop2
 μ-loop2 b w₀ t₀ w t = 64 - t
 
--- src/lib.rt:169:5
 loop-holds : tie.Need-loop-holds Inv-loop μ-loop Inv-loop2 μ-loop2
 unfolding W
 loop-holds c = (search needs, record { room = refl; words = refl })
 
--- src/lib.rt:170:16
 word-requires : tie.Need-word-requires Inv-loop μ-loop Inv-loop2 μ-loop2
 word-requires c κs = search needs
 
--- src/lib.rt:170:9
 mul-w : tie.Need-mul-w Inv-loop μ-loop Inv-loop2 μ-loop2
 mul-w c = search needs
 
--- src/lib.rt:170:9
 array-write-w : tie.Need-array-write-w Inv-loop μ-loop Inv-loop2 μ-loop2
 array-write-w c = search needs
 
--- src/lib.rt:171:9
 add-t : tie.Need-add-t Inv-loop μ-loop Inv-loop2 μ-loop2
 add-t c = search needs
 
--- src/lib.rt:169:5
 loop-less : tie.Need-loop-less Inv-loop μ-loop Inv-loop2 μ-loop2
 loop-less c = search needs
 
--- src/lib.rt:169:5
 loop-again : tie.Need-loop-again Inv-loop μ-loop Inv-loop2 μ-loop2
 loop-again c =
     let l = c .before .before .loop in
     (omega arith, first-word _ (l .t) (l .w) (c .word .result) (c .before .loop-test .taken) (l .inv .1) (c .word .ensures))
 
--- src/lib.rt:173:5
 loop2-holds : tie.Need-loop2-holds Inv-loop μ-loop Inv-loop2 μ-loop2
 loop2-holds c = (omega arith, omega arith, omega arith, c .before .loop .inv .1)
 
--- src/lib.rt:174:9
 grow8-requires : tie.Need-grow8-requires Inv-loop μ-loop Inv-loop2 μ-loop2
 grow8-requires c κs = omega arith
 
--- src/lib.rt:175:9
 add-t-2 : tie.Need-add-t-2 Inv-loop μ-loop Inv-loop2 μ-loop2
 add-t-2 c = search needs
 
--- src/lib.rt:173:5
 loop2-less : tie.Need-loop2-less Inv-loop μ-loop Inv-loop2 μ-loop2
 loop2-less c = search needs
 
--- src/lib.rt:173:5
 loop2-again : tie.Need-loop2-again Inv-loop μ-loop Inv-loop2 μ-loop2
 loop2-again c = (omega arith, omega arith, omega arith, c .grow8 .ensures _ (c .before .before .before .loop2 .inv .3))
 
--- src/lib.rt:163:1
 returns : tie.Need-returns Inv-loop μ-loop Inv-loop2 μ-loop2
 returns c = let l = c .before .loop2 in all-words _ (l .t) (l .w) (omega arith) (l .inv .3)
 
