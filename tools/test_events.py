@@ -139,9 +139,11 @@ class Assembler(unittest.TestCase):
                 "key key=key(a) start=100 expiry=160 impi=a@b entry=00000001,u",
                 "05f5678a136496c7f7b6321c9cb16710e19c23f0a3a74c728cbd592fc3cc42f13e64a001036140620100000001" + "0175",
             ),
-            ("key key=key(a,n.e+0100000002) start=1 expiry=2 impi= entry=none",
-                "05f5678a136496c7f7b6321c9cb16710e19c23f0a3a74c728cbd592fc3cc42f13e01020000"),
-        ]:  # fmt: skip
+            (
+                "key key=key(a,n.e+0100000002) start=1 expiry=2 impi= entry=none",
+                "05f5678a136496c7f7b6321c9cb16710e19c23f0a3a74c728cbd592fc3cc42f13e01020000",
+            ),
+        ]:
             event = "KEY time=100 peer=p btid=btid(a) naf=n.e+0100000002 application=0 => 0 "
             self.assertEqual(expected(event + line), [f"1 0 {answer}"])
             self.assertEqual(expected(event + answer), [f"1 0 {answer}"])
