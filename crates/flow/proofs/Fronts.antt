@@ -1,11 +1,12 @@
 -- Laws of writes into a lent buffer, and into a part of it that is lent on, `&mut s[at..]`.
 use Prim.Native.Nat.{ℕ, _+_, _-_, _≤_, _<_}
+use native.Mathlib.Nat.{add-assoc}
 use native.Mathlib.Numerals.{add-one}
 use native.Mathlib.Omega.{arith}
 use mathlib.Core.Path.{_≡_, refl, sym, ap, ap₂, _∙_}
 use mathlib.Core.List.{List, [], _∷_, _++_, append-nil, append-assoc}
 use lib.ListN.{length, take, drop, set, length-append, length-drop, length-set, drop-of-length-le}
-use lib.Seq.{take-all, take-append-seam, drop-append-seam, drop-drop, set-split}
+use lib.Seq.{take-all, take-at, drop-at, length-take-le, take-append-seam, drop-append-seam, drop-drop, set-split}
 use borrow.Rule.Slice.PartMut.{putMid}
 use Rattle.flow.specs.Front.{front, _▹_, Wrote, Put}
 
@@ -75,3 +76,30 @@ next-put x y at end old mid new p a =
 
 pub wrote-length : (x : List ℕ) (r : ℕ) (old new : List ℕ) → Wrote x r old new → r ≤ length old → length new ≡ length old
 wrote-length x r old new w h = ap length (w .octets) ∙ length-front x old (omega (arith, w .count))
+
+-- ---- fields at a place of the buffer, one after another
+
+put-take : (x : List ℕ) (at end : ℕ) (old new : List ℕ) → Put x at end old new → at ≤ length old → take end new ≡ take at old ++ x
+unfolding front
+put-take x at end old new p h =
+    let l : length (take at old ++ x) ≡ end = rw length-append (omega (arith, p .place, length-take-le at old h)) in
+    rw (p .octets, ← append-assoc) (take-at (take at old ++ x) (drop (length x) (drop at old)) end l)
+
+put-drop : (x : List ℕ) (at end : ℕ) (old new : List ℕ) → Put x at end old new → at ≤ length old → drop end new ≡ drop (length x) (drop at old)
+unfolding front
+put-drop x at end old new p h =
+    let l : length (take at old ++ x) ≡ end = rw length-append (omega (arith, p .place, length-take-le at old h)) in
+    rw (p .octets, ← append-assoc) (drop-at (take at old ++ x) (drop (length x) (drop at old)) end l)
+
+pub then-put : (x y : List ℕ) (at mid end : ℕ) (old m new : List ℕ) → at ≤ length old → Put x at mid old m → Put y mid end m new → Put (x ▹ y) at end old new
+unfolding _▹_ front
+then-put x y at mid end old m new h p q =
+    record {
+      place = rw length-append (omega (arith, p .place, q .place));
+      octets = q .octets ∙ rw (put-take x at mid old m p h, put-drop x at mid old m p h) (simp (length-append, drop-drop, append-assoc, add-assoc));
+    }
+
+-- fields are put one after another, however they are grouped
+pub fields-assoc : (x y z : List ℕ) → (x ▹ y) ▹ z ≡ x ▹ (y ▹ z)
+unfolding _▹_
+fields-assoc x y z = append-assoc x y z

@@ -17,12 +17,28 @@ use Rattle.records.proofs.Entry as Entry·
 use Rattle.records.proofs.Settings as Settings·
 use Rattle.records.proofs.Run as Run·
 use Rattle.records.proofs.Session as Session·
+use Rattle.records.specs.declared.Entry.{Entry}
 use Rattle.records.specs.declared.Settings.{Settings}
 use Rattle.records.specs.declared.Run.{Run}
 use Rattle.records.specs.declared.Session.{Session}
 
 pub entries-long : (h : Settings) (vs : List Val) → Is (row Settings·.the-type) h vs → length (h .entries) ≡ 4
 entries-long h vs g = length-mapped (Entry·.the-type .to) (h .entries) 4 (g .1 .1 .1 .1 .0 .1 .0 .1)
+
+pub flags-long : (h : Entry) (vs : List Val) → Is (row Entry·.the-type) h vs → length (h .flags) ≡ 4
+flags-long h vs g = length-mapped (λ (v : ℕ). v) (h .flags) 4 (g .1 .1 .1 .1 .0 .1 .0 .1)
+
+pub user-long : (h : Entry) (vs : List Val) → Is (row Entry·.the-type) h vs → length (h .user) ≡ 32
+user-long h vs g = length-mapped (λ (v : ℕ). v) (h .user) 32 (g .1 .1 .1 .1 .1 .0 .1 .0 .1)
+
+pub rand-long : (h : Run) (vs : List Val) → Is (row Run·.the-type) h vs → length (h .rand) ≡ 16
+rand-long h vs g = length-mapped (λ (v : ℕ). v) (h .rand) 16 (g .1 .1 .1 .1 .1 .1 .0 .1 .0 .1)
+
+pub session-rand-long : (h : Session) (vs : List Val) → Is (row Session·.the-type) h vs → length (h .rand) ≡ 16
+session-rand-long h vs g = length-mapped (λ (v : ℕ). v) (h .rand) 16 (g .1 .1 .1 .0 .1 .0 .1)
+
+pub session-ks-long : (h : Session) (vs : List Val) → Is (row Session·.the-type) h vs → length (h .ks) ≡ 32
+session-ks-long h vs g = length-mapped (λ (v : ℕ). v) (h .ks) 32 (g .1 .1 .0 .1 .0 .1)
 
 pub xres-long : (h : Run) (vs : List Val) → Is (row Run·.the-type) h vs → length (h .xres) ≡ 16
 xres-long h vs g = length-mapped (λ (v : ℕ). v) (h .xres) 16 (g .1 .1 .1 .1 .1 .1 .1 .0 .1 .0 .1)
