@@ -48,3 +48,8 @@ pub record Stands (s : List ℕ) (at max n next : ℕ) : Type 0 where
   pub most : n ≤ max
   pub here : drop at s ≡ encode n ++ drop next s
   pub long : next ≡ at + length (encode n)
+
+-- what was read from at ends at next, inside the body
+pub record After (s : List ℕ) (at next : ℕ) : Type 0 where
+  pub later : at < next
+  pub inside : next ≤ length s
