@@ -14,7 +14,7 @@ use borrow.Author.Tests.{lt-ltb, le-ltb, ltb-true, ltb-false, eqb-false, ne-eqb,
 use Rattle.flow.specs.Choice.{pick}
 use Rattle.flow.proofs.Choices.{yes-back}
 use Rattle.line.specs.Ranges.{RANGE, TIME, EXPIRY}
-use Rattle.line.specs.Number.{Octets, encodeIn, encode, withNum, octet, groupsAt, numberAt, Stands}
+use Rattle.line.specs.Number.{Octets, encodeIn, encode, withNum, groupsAt, numberAt, Stands, After}
 use Rattle.line.specs.declared.Num.{Num}
 use Rattle.line.specs.declared.Num.the-variants.{Value, Bad}
 use Rattle.line.proofs.Writing.{encode-last, encode-more, in-range}
@@ -102,6 +102,15 @@ step k s at n next = go (ltb at (length s)) refl (ltb (getD s at 0) 128) refl (g
     go true p false q Bad f e = absurd (no-num n next e)
     go true p false q (Value v m) f e = joint v m (ltb-true _ _ p) (ltb-false _ _ q) f (eqb v 0) refl e
 
+groups-after : (k : ℕ) (s : List ℕ) (at n next : ℕ) → groupsAt k s at ≡ Value n next → After s at next
+unfolding groupsAt
+groups-after zero s at n next e = absurd (no-num n next e)
+groups-after (suc k) s at n next e = go (step k s at n next e) (λ v. groups-after k s (at + 1) v next)
+  where
+    go : Step k s at n next → ((v : ℕ) → groupsAt k s (at + 1) ≡ Value v next → After s (at + 1) next) → After s at next
+    go (last h l e f) ih = record { later = omega arith; inside = omega arith }
+    go (more v h l f z e) ih = let a = ih v f in record { later = omega (arith, a .later); inside = a .inside }
+
 -- the octets of n, at most k before the last, stand at a place, up to next
 record Written (k : ℕ) (s : List ℕ) (at n next : ℕ) : Type 0 where
   pub here : drop at s ≡ encodeIn k n ++ drop next s
@@ -141,16 +150,31 @@ written : (k : ℕ) (s : List ℕ) (at n next : ℕ) → Octets s → groupsAt (
 written zero s at n next b e = one-written s at n next (step zero s at n next e)
 written (suc k) s at n next b e = more-written k s at n next b (λ v at e. written k s at v next b e) (step (suc k) s at n next e)
 
-pub number-written : (s : List ℕ) (at max n next : ℕ) → Octets s → numberAt s at max ≡ Value n next → Stands s at max n next
-number-written s at max n next b e =
+record NumberRead (s : List ℕ) (at max n next : ℕ) : Type 0 where
+  pub groups : groupsAt 6 s at ≡ Value n next
+  pub most : n ≤ max
+
+number-parts : (s : List ℕ) (at max n next : ℕ) → numberAt s at max ≡ Value n next → NumberRead s at max n next
+number-parts s at max n next e =
     let r = num-back (Value n next) Bad (no-num n next) _ (groupsAt 6 s at) e in
     let y = yes-back (Value n next) Bad (no-num n next) _ _ (r .rest) in
     let f = y .1 in
     let p : r .v ≡ n = cc in
     let q : r .next ≡ next = cc in
-    let w = written 5 s at n next b (r .read ∙ ap₂ Value p q) in
+    record { groups = r .read ∙ ap₂ Value p q; most = omega (arith, leb-true (r .v) max (y .0)) }
+
+pub number-most : (s : List ℕ) (at max n next : ℕ) → numberAt s at max ≡ Value n next → n ≤ max
+number-most s at max n next e = number-parts s at max n next e .most
+
+pub number-after : (s : List ℕ) (at max n next : ℕ) → numberAt s at max ≡ Value n next → After s at next
+number-after s at max n next e = groups-after 6 s at n next (number-parts s at max n next e .groups)
+
+pub number-written : (s : List ℕ) (at max n next : ℕ) → Octets s → numberAt s at max ≡ Value n next → Stands s at max n next
+number-written s at max n next b e =
+    let r = number-parts s at max n next e in
+    let w = written 5 s at n next b (r .groups) in
     let c = in-range n (w .fits) in
-    record { most = omega (arith, leb-true (r .v) max (y .0)); here = rw c (w .here); long = rw c (w .long) }
+    record { most = r .most; here = rw c (w .here); long = rw c (w .long) }
 
 -- reading finds n exactly where the octets of n stand and n is in range
 pub number-iff : (s : List ℕ) (at max n next : ℕ) → Octets s → max < RANGE → (numberAt s at max ≡ Value n next) ↔ Stands s at max n next

@@ -9,14 +9,15 @@ use lib.Seq.{drop-drop, drop-append-seam, take-append-seam}
 use borrow.Author.Tests.{ltb-false, leb-true}
 use Rattle.flow.specs.Front.{_▹_}
 use Rattle.flow.proofs.Choices.{by-ge, by-le, yes-back, no-back}
-use Rattle.line.specs.Ranges.{RANGE}
-use Rattle.line.specs.Number.{Octets, encode, groupsAt, numberAt}
+use Rattle.line.specs.Ranges.{RANGE, NAME, UA}
+use Rattle.line.specs.Number.{Octets, encode, numberAt, After}
+use Rattle.line.specs.Name.{nameAt, nafIdAt}
 use Rattle.line.specs.Text.{textOctets, octetsAt, textAt, between, TextStands, Inside}
 use Rattle.line.specs.declared.Num.the-variants.{Value, Bad as NoNum}
 use Rattle.line.specs.declared.Span.the-variants.{At, Bad}
 use Rattle.line.proofs.Reading.{by-number, num-back, no-num, no-span}
 use Rattle.line.proofs.Writing.{number-long}
-use Rattle.line.proofs.Numbers.{number-read, number-written, number-apart}
+use Rattle.line.proofs.Numbers.{number-read, number-most, number-after, number-written, number-apart}
 
 -- the place after a field, and what stands there
 pub next-field : (s x t : List ℕ) (at : ℕ) → drop at s ≡ x ++ t → drop (at + length x) s ≡ t
@@ -24,14 +25,7 @@ next-field s x t at e = sym (drop-drop (length x) at s) ∙ ap (drop (length x))
 
 -- ---- ranges
 
-pub number-most : (s : List ℕ) (at max v next : ℕ) → numberAt s at max ≡ Value v next → v ≤ max
-number-most s at max v next e =
-    let r = num-back (Value v next) NoNum (no-num v next) _ (groupsAt 6 s at) e in
-    let y = yes-back (Value v next) NoNum (no-num v next) _ _ (r .rest) in
-    let f = y .1 in
-    let p : r .v ≡ v = cc in
-    omega (arith, leb-true (r .v) max (y .0))
-
+-- n octets from at
 pub record Octetted (s : List ℕ) (at n start end : ℕ) : Type 0 where
   pub first : start ≡ at
   pub last : end ≡ at + n
@@ -78,6 +72,18 @@ text-inside s at lo hi start end e =
     let r = text-parts s at lo hi start end e in
     let m = number-most s at hi (r .n) start (r .number) in
     record { least = omega (arith, r .least, r .last); most = omega (arith, r .last); inside = r .inside }
+
+pub text-after : (s : List ℕ) (at lo hi start end : ℕ) → textAt s at lo hi ≡ At start end → After s at end
+text-after s at lo hi start end e =
+    let r = text-parts s at lo hi start end e in
+    let a = number-after s at hi (r .n) start (r .number) in
+    record { later = omega (arith, r .last, a .later); inside = r .inside }
+
+pub name-inside : (s : List ℕ) (at start end : ℕ) → nameAt s at ≡ At start end → Inside s 1 NAME start end
+name-inside s at start end e = text-inside s at 1 NAME start end e
+
+pub naf-id-inside : (s : List ℕ) (at start end : ℕ) → nafIdAt s at ≡ At start end → Inside s (1 + UA) (NAME + UA) start end
+naf-id-inside s at start end e = text-inside s at (1 + UA) (NAME + UA) start end e
 
 pub text-written : (s : List ℕ) (at lo hi start end : ℕ) → Octets s → textAt s at lo hi ≡ At start end → TextStands s at lo hi start end
 unfolding _▹_

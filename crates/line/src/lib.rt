@@ -186,6 +186,6 @@ pub fn put_octets_at(out: &mut [u8], at: usize, s: &[u8]) -> usize
     requires { ⌜ at + length (now s) ≤ length (now out) ⌝ }
     ensures { λ r. ⌜ Put (now (s .entry)) at r (now (out .entry)) (now (out .exit)) ⌝ }
 {
-    let taken = bytes::copy(s, &mut out[at..]);
-    at + taken
+    let copied = bytes::copy(s, &mut out[at..]);
+    at + copied
 }
