@@ -91,7 +91,7 @@ pub struct Hash {
 fn ch(x: u32, y: u32, z: u32) -> u32
     ensures { λ r. ⌜ r ≡ Ch x y z ⌝ }
 {
-    (x & y) ^ (!x & z)
+    z ^ (x & (y ^ z))
 }
 
 fn maj(x: u32, y: u32, z: u32) -> u32
@@ -160,21 +160,20 @@ fn grow8(w: &mut [u32; 64], t: usize)
 }
 
 // The message schedule of a block.
-fn schedule(b: &[u8]) -> [u32; 64]
-    requires { ⌜ length (now b) ≡ 64 ⌝ }
-    ensures { λ r. ⌜ r ≡ W (now (b .entry)) 64 ⌝ }
+fn schedule(b: &[u8], w: &mut [u32; 64])
+    requires { ⌜ (length (now b) ≡ 64) × (length (now w) ≡ 64) ⌝ }
+    ensures { λ _. ⌜ now (w .exit) ≡ W (now (b .entry)) 64 ⌝ }
 {
-    let mut w = [0u32; 64];
     let mut t: usize = 0;
     while t < 16 {
-        w[t] = blocks::word(b, t);
+        let x = blocks::word(b, t);
+        w[t] = x;
         t += 1;
     }
     while t < 64 {
-        grow8(&mut w, t);
+        grow8(w, t);
         t += 8;
     }
-    w
 }
 
 fn round(s: Hash, k: u32, w: u32) -> Hash
@@ -238,7 +237,8 @@ pub fn compress(x: Hash, b: &[u8]) -> Hash
     ensures { λ r. ⌜ r ≡ compressOf x (now (b .entry)) ⌝ }
 {
     let k = K;
-    let w = schedule(b);
+    let mut w = [0u32; 64];
+    schedule(b, &mut w);
     let mut s = x;
     let mut t: usize = 0;
     while t < 64 {
