@@ -1,0 +1,33 @@
+use Rattle.rounds.proofs.Rounds.{round-more}
+use borrow.Author.Needs.{needs}
+use Rattle.rounds.proofs.step.Statement.{statement}
+use Rattle.rounds.proofs.step.Tie as tie
+
+mul-round : tie.Need-mul-round
+mul-round c = search needs
+
+element-copy-out-round : tie.Need-element-copy-out-round
+element-copy-out-round c = search needs
+
+mul-round-2 : tie.Need-mul-round-2
+mul-round-2 c = search needs
+
+element-copy-out-round-2 : tie.Need-element-copy-out-round-2
+element-copy-out-round-2 c = search needs
+
+round-requires : tie.Need-round-requires
+round-requires c κs = search needs
+
+returns : tie.Need-returns
+returns c = λ x e. let a = c .before .before .before .args in round-more (a .w .now) x (a .s) (c .round .result) (a .t) e (cc)
+
+pub step-spec : {M : Type 1} → statement M
+step-spec =
+    tie.close
+    (tie.spec
+    mul-round
+    element-copy-out-round
+    mul-round-2
+    element-copy-out-round-2
+    round-requires
+    returns)
