@@ -1,4 +1,5 @@
 pub mod Choices
+pub mod Tests
 pub mod Chains
 pub mod Searches
 pub mod Fronts

@@ -1,0 +1,5 @@
+pub mod Reading
+pub mod Sevens
+pub mod Writing
+pub mod Numbers
+pub mod Texts

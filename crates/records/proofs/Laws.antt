@@ -1,0 +1,39 @@
+-- What owning a record tells of the lengths of its arrays, and the lapse without a sum that might wrap.
+use Prim.Native.Nat.{ℕ, _+_, _-_, _<_, _≤_}
+use native.Mathlib.Omega.{arith}
+use mathlib.Core.Path.{_≡_, refl, sym, ap, _∙_}
+use mathlib.Core.Bool.{Bool, true}
+use mathlib.Core.Logic.{⊎-elim}
+use mathlib.Core.List.{List}
+use mir.Val.{Val}
+use denote.Laws.{Is}
+use denote.Struct.Declared.{row}
+use lib.Dec.{ltb}
+use lib.ListN.{length}
+use borrow.Author.Tests.{lt-ltb, le-ltb, ltb-true, ltb-false}
+use Rattle.flow.proofs.Choices.{split}
+use Rattle.names.proofs.Laws.{length-mapped}
+use Rattle.records.proofs.Entry as Entry·
+use Rattle.records.proofs.Settings as Settings·
+use Rattle.records.proofs.Run as Run·
+use Rattle.records.proofs.Session as Session·
+use Rattle.records.specs.declared.Settings.{Settings}
+use Rattle.records.specs.declared.Run.{Run}
+use Rattle.records.specs.declared.Session.{Session}
+
+pub entries-long : (h : Settings) (vs : List Val) → Is (row Settings·.the-type) h vs → length (h .entries) ≡ 4
+entries-long h vs g = length-mapped (Entry·.the-type .to) (h .entries) 4 (g .1 .1 .1 .1 .0 .1 .0 .1)
+
+pub xres-long : (h : Run) (vs : List Val) → Is (row Run·.the-type) h vs → length (h .xres) ≡ 16
+xres-long h vs g = length-mapped (λ (v : ℕ). v) (h .xres) 16 (g .1 .1 .1 .1 .1 .1 .1 .0 .1 .0 .1)
+
+-- time < start + 30, for any start
+pub early : (s t : ℕ) → t < s → true ≡ ltb t (s + 30)
+early s t h = sym (lt-ltb t (s + 30) (omega arith))
+
+pub within : (s t : ℕ) → s ≤ t → ltb (t - s) 30 ≡ ltb t (s + 30)
+within s t h =
+    ⊎-elim
+    (λ k. let q : t < s + 30 = ltb-true t (s + 30) k in lt-ltb (t - s) 30 (omega arith) ∙ sym k)
+    (λ k. let q : s + 30 ≤ t = ltb-false t (s + 30) k in le-ltb (t - s) 30 (omega arith) ∙ sym k)
+    (split (ltb t (s + 30)))

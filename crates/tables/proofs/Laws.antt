@@ -1,0 +1,40 @@
+-- What owning a table tells of its length, and how a search's answer is read.
+use Prim.Native.Nat.{ℕ}
+use mathlib.Core.Path.{_≡_, refl, sym, ap, _∙_}
+use mathlib.Core.Bool.{Bool, true, false, _||_}
+use mathlib.Core.List.{List}
+use mir.Val.{Val}
+use denote.Laws.{Is}
+use denote.Struct.Declared.{row}
+use lib.ListN.{length}
+use Rattle.flow.specs.Search.{found}
+use Rattle.flow.specs.declared.Found.{Found}
+use Rattle.flow.specs.declared.Found.the-variants.{At, Nothing}
+use Rattle.names.proofs.Laws.{length-mapped}
+use Rattle.records.proofs.Run as Run·
+use Rattle.records.proofs.Session as Session·
+use Rattle.tables.proofs.Runs as Runs·
+use Rattle.tables.proofs.Sessions as Sessions·
+use Rattle.tables.specs.declared.Runs.{Runs}
+use Rattle.tables.specs.declared.Sessions.{Sessions}
+
+pub runs-long : (h : Runs) (vs : List Val) → Is (row Runs·.the-type) h vs → length (h .rows) ≡ 32
+runs-long h vs g = length-mapped (Run·.the-type .to) (h .rows) 32 (g .1 .1 .0 .1 .0 .1)
+
+pub sessions-long : (h : Sessions) (vs : List Val) → Is (row Sessions·.the-type) h vs → length (h .rows) ≡ 64
+sessions-long h vs g = length-mapped (Session·.the-type .to) (h .rows) 64 (g .1 .1 .0 .1 .0 .1)
+
+-- one of two searches found something
+module _ (f g x y : Found) (p : x ≡ f) where
+  pub seen-first : (i : ℕ) → x ≡ At i → true ≡ (found f || found g)
+  unfolding found
+  seen-first i e = rw (← p, e)
+
+  module _ (q : y ≡ g) (e : x ≡ Nothing) where
+    pub seen-second : (j : ℕ) → y ≡ At j → true ≡ (found f || found g)
+    unfolding found
+    seen-second j h = rw (← p, e, ← q, h)
+
+    pub seen-none : y ≡ Nothing → false ≡ (found f || found g)
+    unfolding found
+    seen-none h = rw (← p, e, ← q, h)
