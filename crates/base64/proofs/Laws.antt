@@ -23,6 +23,9 @@ four-wrote (p ∷ q ∷ []) a b c d h = absurd (omega arith)
 four-wrote (p ∷ q ∷ r ∷ []) a b c d h = absurd (omega arith)
 four-wrote (p ∷ q ∷ r ∷ s ∷ out) a b c d h = record { count = refl; octets = refl }
 
+pub four-as : {a b c d a′ b′ c′ d′ r : ℕ} {old new : List ℕ} → a ≡ a′ → b ≡ b′ → c ≡ c′ → d ≡ d′ → Wrote (a ∷ b ∷ c ∷ d ∷ []) r old new → Wrote (a′ ∷ b′ ∷ c′ ∷ d′ ∷ []) r old new
+four-as p q r s w = wrote-as (cc) w
+
 -- lists of no, one and two octets
 pub none-wrote : (s out : List ℕ) → length s ≡ 0 → Wrote (base64 s) 0 out out
 unfolding base64 front
