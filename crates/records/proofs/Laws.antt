@@ -31,6 +31,9 @@ flags-long h vs g = length-mapped (λ (v : ℕ). v) (h .flags) 4 (g .1 .1 .1 .1 
 pub user-long : (h : Entry) (vs : List Val) → Is (row Entry·.the-type) h vs → length (h .user) ≡ 32
 user-long h vs g = length-mapped (λ (v : ℕ). v) (h .user) 32 (g .1 .1 .1 .1 .1 .0 .1 .0 .1)
 
+pub run-name-long : (h : Run) (vs : List Val) → Is (row Run·.the-type) h vs → length (h .impi .octets) ≡ 64
+run-name-long h vs g = length-mapped (λ (v : ℕ). v) (h .impi .octets) 64 (g .1 .1 .1 .1 .0 .1 .1 .0 .1 .0 .1)
+
 pub rand-long : (h : Run) (vs : List Val) → Is (row Run·.the-type) h vs → length (h .rand) ≡ 16
 rand-long h vs g = length-mapped (λ (v : ℕ). v) (h .rand) 16 (g .1 .1 .1 .1 .1 .1 .0 .1 .0 .1)
 
