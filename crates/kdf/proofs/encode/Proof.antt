@@ -2,11 +2,11 @@
 use Prim.Native.Nat.{_+_, _*_, _<_, _≤_}
 use native.Mathlib.Omega.{arith}
 use mathlib.Core.Path.{_≡_, sym, _∙_}
-use lib.ListN.{length, length-set}
+use lib.ListN.{length, length-set, length-take, length-drop}
 use borrow.Author.Needs.{needs}
 use Rattle.flow.proofs.Chains.{chain}
-use Rattle.flow.proofs.Replies.{met-answered, replies}
-use Rattle.kdf.proofs.Laws.{room-after, string-wrote, string-length}
+use Rattle.flow.proofs.Replies.{met-refused, met-answered, replies}
+use Rattle.kdf.proofs.Laws.{string-wrote, string-length}
 use Rattle.kdf.specs.Encode.{cut, sum, encodeRule}
 use Rattle.kdf.specs.Kdf.{params, kdfString}
 use Rattle.kdf.proofs.encode.Statement.{statement}
@@ -56,7 +56,7 @@ unfolding encodeRule
 returns-4 c =
     let w = whole (c .before) in
     let h : length (c .before .before .before .before .before .before .before .before .before .args .out .now) < length (kdfString (c .before .before .before .before .before .before .before .before .before .args .fc) (cut (c .before .before .before .before .before .before .before .before .before .args .lens .now) (c .before .before .before .before .before .before .before .before .before .args .run .now))) = omega (arith, size (c .before)) in
-    search (replies, needs) depth 9
+    met-refused _ _ _ (search (chain, needs) depth 9)
 
 slice-write-out : tie.Need-slice-write-out
 slice-write-out c = search needs
@@ -72,8 +72,7 @@ part-put-params-end c = search needs
 
 put-params-requires : tie.Need-put-params-requires
 put-params-requires c κs =
-    let a = c .before .before .before .before .before .before .before .before .before .before .args in
-    room-after (a .fc) (a .out .now) _ _ (sym (c .before .before .before .before .before .is-any-long .ensures) ∙ c .before .before .before .before .if2 .left) (whole (c .before .before)) (fits (c .before))
+    (sym (c .before .before .before .before .before .is-any-long .ensures) ∙ c .before .before .before .before .if2 .left, (whole (c .before .before), simp (length-take, length-drop, length-set) (omega (arith, fits (c .before)))))
 
 add-t10 : tie.Need-add-t10
 add-t10 c =
