@@ -13,10 +13,10 @@ use borrow.Author.Tests.{ltb-false, lt-ltb, le-ltb}
 use borrow.Rule.Slice.PartMut.{putMid}
 use Rattle.flow.specs.Choice.{pick}
 use Rattle.flow.specs.Front.{front, _▹_, Wrote}
-use Rattle.flow.proofs.Fronts.{lent-end, then-front, front-none, set-first, octet-put, end-put, next-put}
+use Rattle.flow.proofs.Fronts.{then-front, front-none, set-first, octet-put, end-put, next-put}
 use Rattle.flow.proofs.Choices.{no-back}
 use Rattle.kdf.specs.Kdf.{param, params, kdfString}
-use Rattle.kdf.specs.Encode.{LONGEST, cut, sum, anyAbove, Room}
+use Rattle.kdf.specs.Encode.{LONGEST, cut, sum, anyAbove}
 
 -- the lengths
 
@@ -109,12 +109,12 @@ module _ (run lens old out : List ℕ) (i from at : ℕ) (g : Going run lens old
       record { count = g .place ∙ ap length (sym e); octets = g .octets ∙ ap (λ (l : List ℕ). front l old) (sym e) }
 
   module _ (h : i < length lens) where
-    pub going-next : Room run lens old → Next run lens out i from at
-    going-next r =
+    pub going-next : anyAbove LONGEST lens ≡ false → length (params (cut lens run)) ≤ length old → Next run lens out i from at
+    going-next a b =
         let s = sum-on lens i h in
         let t : length (take (getD lens i 0) (drop from run)) ≡ getD lens i 0 = simp (length-take, length-drop) (omega (arith, g .left)) in
         let l = simp (length-append, length-param) at (ap length (g .seam ∙ ap (λ (l : List ℕ). g .fields ++ l) (cut-on lens run i from h))) in
-        record { small = none-above LONGEST lens (r .small) i; inside = omega (arith, g .left); room = omega (arith, g .place, g .same, r .holds) }
+        record { small = none-above LONGEST lens a i; inside = omega (arith, g .left); room = omega (arith, g .place, g .same) }
 
     pub going-more : (e : List ℕ) (r : ℕ) → Wrote (param (take (from + getD lens i 0 - from) (drop from run))) r (take (length out - at) (drop at out)) e
         → length (putMid at (length out - at) out e) ≡ length out → Going run lens old (putMid at (length out - at) out e) (i + 1) (from + getD lens i 0) (at + r)
@@ -131,10 +131,6 @@ module _ (run lens old out : List ℕ) (i from at : ℕ) (g : Going run lens old
 
 -- FC stands in front of the part that is lent on
 module _ (fc : ℕ) (out : List ℕ) where
-  pub room-after : (run lens : List ℕ) → anyAbove LONGEST lens ≡ false → sum lens ≡ length run → 1 + length (params (cut lens run)) ≤ length out
-      → Room run lens (take (length (set out 0 fc) - 1) (drop 1 (set out 0 fc)))
-  room-after run lens a b h = record { small = a; whole = b; holds = rw (lent-end 1 (set out 0 fc)) (simp (length-drop, length-set) (omega arith)) }
-
   pub string-wrote : (x e : List ℕ) (r : ℕ) → 1 ≤ length out → Wrote x r (take (length (set out 0 fc) - 1) (drop 1 (set out 0 fc))) e
       → Wrote (fc ∷ x) (1 + r) out (putMid 1 (length (set out 0 fc) - 1) (set out 0 fc) e)
   unfolding _▹_
