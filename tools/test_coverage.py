@@ -90,11 +90,13 @@ class Courses(unittest.TestCase):
 
 class Marks(unittest.TestCase):
     def test_a_mark_belongs_to_the_next_event(self):
-        file = read("# meets: one\n# more words\nSTART time=1 impi=a@b => 0 01070100\nABORT time=1 restart=7 run=1 => 0 04\n")
+        start, abort = "START time=1 impi=a@b => 0 01070100\n", "ABORT time=1 restart=7 run=1 => 0 04\n"
+        file = read("# meets: one\n# more words\n" + start + abort)
         self.assertEqual([event.marks for event in file.events], [["one"], []])
 
     def test_ranges(self):
-        file = read("START time=1 impi= => 3\nSTART time=1 impi=hex:61*64 => 0 01070100\nSTART time=1 impi=hex:61*65 => 4\n")
+        lines = ("START time=1 impi= => 3", "START time=1 impi=hex:61*64 => 4", "START time=1 impi=hex:61*65 => 4")
+        file = read("\n".join(lines))
         found = {(kind, field): cells for kind, field, cells in coverage.ranges([file])}
         one = ("one", 3), None, ("one", 4), None
         self.assertEqual([place for _, place in found["START", "IMPI, octets"]], list(one))
