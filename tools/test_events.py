@@ -211,6 +211,7 @@ class Disassembler(unittest.TestCase):
     def test_damaged(self):
         draw = random.Random(1)
         files = [EXAMPLE] + [events.read_source(path).octets() for path in below_events()]
+        files = [octets for octets in files if octets]
         for _ in range(3000):
             octets = bytearray(draw.choice(files))
             for _ in range(draw.randrange(4)):
@@ -264,6 +265,12 @@ class Programs(unittest.TestCase):
         finally:
             events.WAIT = wait
         self.assertEqual(late, ["(no line for 1 seconds)"])
+
+    def test_step_cut(self):
+        """What is cut shows at the end of the input, and no sooner."""
+        whole = self.all_at_once(["1 3 -"])
+        self.assertEqual(events.step_program(whole, assembled(OPEN + "frame 04 04 => 3 -")), ["1 3 -"])
+        self.assertEqual(events.step_program(whole, assembled("opening 0b => 1 -\nraw 01")), ["1 3 -"])
 
     def test_commands(self):
         with tempfile.TemporaryDirectory() as folder:
