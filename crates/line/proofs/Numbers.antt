@@ -25,12 +25,12 @@ pub times-fit : (TIME < RANGE) × (EXPIRY < RANGE)
 times-fit = (lit< tt, lit< tt)
 
 -- what a list that goes on with x says of the octet at a place
-record Head (s : List ℕ) (at x : ℕ) (t : List ℕ) : Type 0 where
+pub record Head (s : List ℕ) (at x : ℕ) (t : List ℕ) : Type 0 where
   pub inside : at < length s
   pub octet : getD s at 0 ≡ x
   pub after : drop (at + 1) s ≡ t
 
-head-at : (s : List ℕ) (at x : ℕ) (t : List ℕ) → drop at s ≡ x ∷ t → Head s at x t
+pub head-at : (s : List ℕ) (at x : ℕ) (t : List ℕ) → drop at s ≡ x ∷ t → Head s at x t
 head-at [] zero x t e = absurd (let z : _≡_ {A = ℕ} 0 1 = cc in omega arith)
 head-at [] (suc at) x t e = absurd (let z : _≡_ {A = ℕ} 0 1 = cc in omega arith)
 head-at (y ∷ s) zero x t e = record { inside = omega arith; octet = cc; after = cc }
