@@ -25,26 +25,31 @@ pub const BTID: u64 = NAME + 25;
 // The octets of a Ua security protocol identifier; a NAF_Id is an FQDN and then these.
 pub const UA: u64 = 5;
 
-// The shortest and the longest XRES and RES.
+// The shortest XRES and RES.
 pub const RES_LEAST: u64 = 4;
 
+// The longest XRES and RES.
 pub const RES_MOST: u64 = 16;
 
 // The octets of RAND, AUTN, CK and IK each.
 pub const BARE: usize = 16;
 
-// The shortest and the longest lifetime, in seconds.
+// The shortest lifetime, in seconds.
 pub const LIFETIME_LEAST: u64 = 60;
 
+// The longest lifetime, in seconds.
 pub const LIFETIME_MOST: u64 = 604800;
 
-// Settings: the most entries; of an entry the highest group, the octets of its flags, the longest user name.
+// The most entries of settings.
 pub const ENTRIES: u64 = 4;
 
+// The highest group.
 pub const GROUP: u64 = 255;
 
+// The octets of an entry's flags.
 pub const FLAGS: usize = 4;
 
+// The longest user name.
 pub const USER: u64 = 32;
 
 // The most octets of a number.
