@@ -1,0 +1,4 @@
+pub mod Laws
+pub mod Settings
+pub mod Event
+pub mod Ranges
