@@ -15,7 +15,7 @@ use Rattle.tables.specs.State.{runAt, established}
 use Rattle.tables.specs.declared.State.{State}
 use Rattle.answer.specs.Answer.{encodeOf, made, madeOctets}
 use Rattle.outcome.specs.Outcome.{Done}
-use Rattle.response.specs.Response.{concludes, rightAt}
+use Rattle.rules.specs.Response.{concludes, rightAt}
 
 pub at-expiry : (btid : List ℕ) (t : ℕ) (m m′ : Moment) (len : ℕ) (old new : List ℕ) → m ≡ m′ → Wrote (madeOctets btid t (m .0)) len old new
     → Wrote (encodeOf (made btid t (m′ .0))) len old new

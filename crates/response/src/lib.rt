@@ -10,7 +10,7 @@ ghost use lib.ListN.{length};
 ghost use Rattle.line.specs.Ranges.{TIME};
 ghost use Rattle.answer.specs.Answer.{ROOM};
 ghost use Rattle.outcome.specs.Outcome.{Met};
-ghost use Rattle.response.specs.Response.{abortRule, makes, fails, concludes, responseRule, rightFor};
+ghost use Rattle.rules.specs.Response.{abortRule, makes, fails, concludes, responseRule, rightFor};
 
 // A right RES: the run in row i ends, and its session is made.
 fn makes(state: State, time: u64, i: usize, row: Run, out: &mut [u8]) -> Outcome

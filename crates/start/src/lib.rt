@@ -11,7 +11,7 @@ ghost use lib.ListN.{length};
 ghost use Rattle.answer.specs.Answer.{ROOM};
 ghost use Rattle.tables.specs.State.{offeredTo};
 ghost use Rattle.outcome.specs.Outcome.{Met};
-ghost use Rattle.start.specs.Start.{LAST, startRule, opens};
+ghost use Rattle.rules.specs.Start.{LAST, startRule, opens};
 
 // The last run number.
 const LAST: u64 = 4294967295;

@@ -1,5 +1,5 @@
 -- Each branch is a line of the rule; the stages have their own proofs.
-use Rattle.response.specs.Response.{concludes}
+use Rattle.rules.specs.Response.{concludes}
 use Rattle.outcome.proofs.Laws.{rules}
 use native.Mathlib.Omega.{arith}
 use borrow.Author.Needs.{needs}

@@ -13,7 +13,7 @@ use Rattle.records.proofs.Laws.{run-name-long, rand-long}
 use Rattle.tables.specs.Tables.{placeFor}
 use Rattle.answer.specs.Answer.{encodeOf}
 use Rattle.outcome.proofs.Laws.{met-refused, met-answered}
-use Rattle.response.specs.Response.{makes}
+use Rattle.rules.specs.Response.{makes}
 use Rattle.response.proofs.Laws.{at-expiry, stored}
 use native.Mathlib.Omega.{arith}
 use borrow.Author.Needs.{needs}
@@ -84,7 +84,7 @@ returns-2 c =
     let z = c .before .before .before .before .before .before .before .before .before .before .before .before .before .before .before .before .before .before .before .before .before in
     let e = c .before .before .before .before .before .before .before .before .plus .ensures ∙ ap (plusOf (moment (z .args .time))) (c .before .before .before .before .before .before .before .before .before .lifetime-or .ensures) in
     met-answered _ _ _ _ _ _ _ _ (at-expiry _ _ _ _ _ _ _ e (c .before .before .before .before .put-made .ensures)) (stored _ _ _ _ _ _ _ _ _ _ (c .established .ensures) (c .before .session .ensures) e)
-    (passes-found _ _ _ _ (placed (c .before .before .before .before .before .before .before .before .before .before .before .before .before)) _ _ (c .before .before .before .before .before .before .before .before .before .before .before .j .given .1) refl)
+    (passes-found _ _ _ _ (placed (c .before .before .before .before .before .before .before .before .before .before .before .before .before .before)) _ _ (c .before .before .before .before .before .before .before .before .before .before .before .before .j .given .1) refl)
 
 pub makes-spec : {M : Type 1} → statement M
 makes-spec =

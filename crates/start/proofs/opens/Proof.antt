@@ -4,7 +4,7 @@ use Rattle.tables.specs.State.{started}
 use Rattle.records.specs.Rows.{startedRun}
 use Rattle.names.specs.declared.Name.{Name}
 -- The answer stands in the buffer, and the run in its row.
-use Rattle.start.specs.Start.{opens}
+use Rattle.rules.specs.Start.{opens}
 use Rattle.answer.specs.Answer.{encodeOf}
 use Rattle.outcome.proofs.Laws.{met-answered}
 use native.Mathlib.Omega.{arith}

@@ -1,9 +1,9 @@
 use mathlib.Core.Path.{ap}
 use Rattle.flow.proofs.Chains.{passes-above, passes-found}
 use Rattle.outcome.proofs.Laws.{met-stage, passes-below}
-use Rattle.start.specs.Start.{opens}
+use Rattle.rules.specs.Start.{opens}
 -- Each refusal is a line of the rule; the last stage has its own proof.
-use Rattle.start.specs.Start.{startRule}
+use Rattle.rules.specs.Start.{startRule}
 use Rattle.outcome.proofs.Laws.{rules}
 use native.Mathlib.Omega.{arith}
 use borrow.Author.Needs.{needs}
