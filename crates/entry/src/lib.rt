@@ -1,8 +1,8 @@
 // The entry: one event on a state, with the shelf table lent as rows. Document 01, "Events and numbers on the line" to "What goes back".
 ghost use lib.ListN.{length};
-ghost use Rattle.server.specs.Step.{Met};
-ghost use Rattle.entry.specs.Event.{eventOf};
-use server::Outcome;
+ghost use Rattle.outcome.specs.Outcome.{Met};
+ghost use Rattle.rules.specs.History.{eventOf};
+use outcome::Outcome;
 use shelves::Row;
 use tables::State;
 

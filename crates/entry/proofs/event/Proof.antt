@@ -52,10 +52,11 @@ use Rattle.shelves.proofs.lookup as lookup
 use Rattle.shelves.proofs.lookup.Symbol as lookup-def
 use Rattle.shelves.proofs.lookup.Symbol.{name as #lookup}
 use Rattle.shelves.proofs.lookup.Met as lookup-thm
-use Rattle.server.specs.declared.Outcome.{Outcome}
-use Rattle.server.specs.Step.{askedOf, stepOf, Met}
-use Rattle.server.proofs.Outcome as O
-use Rattle.server.proofs.Outcome.Laws as O′
+use Rattle.outcome.specs.declared.Outcome.{Outcome}
+use Rattle.outcome.specs.Outcome.{Met}
+use Rattle.rules.specs.Server.{askedOf, stepOf}
+use Rattle.outcome.proofs.Outcome as O
+use Rattle.outcome.proofs.Outcome.Laws as O′
 use Rattle.server.proofs.asked as asked
 use Rattle.server.proofs.asked.Symbol as asked-def
 use Rattle.server.proofs.asked.Symbol.{name as #asked}
@@ -64,7 +65,7 @@ use Rattle.server.proofs.step as step
 use Rattle.server.proofs.step.Symbol as step-def
 use Rattle.server.proofs.step.Symbol.{name as #step}
 use Rattle.server.proofs.step.Met as step-thm
-use Rattle.entry.specs.Event.{eventOf}
+use Rattle.rules.specs.History.{eventOf}
 use Rattle.entry.proofs.event.Key.{name as #event}
 use Rattle.entry.proofs.event as event
 use Rattle.entry.proofs.event.Statement as stated
