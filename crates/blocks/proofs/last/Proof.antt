@@ -1,3 +1,4 @@
+-- After j turns the first j octets are those of the message with its padding.
 use mathlib.Core.Path.{_≡_, refl, sym, ap, _∙_}
 use mathlib.Core.Logic.{⊎-elim}
 use mathlib.Core.List.{_++_}

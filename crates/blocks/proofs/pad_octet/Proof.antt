@@ -1,3 +1,4 @@
+-- By the place: the octet 0x80, a zero, an octet of the length, or past the end.
 use mathlib.Core.Path.{_∙_}
 use native.Mathlib.Omega.{arith}
 use Rattle.blocks.proofs.Padding.{pad-first, pad-zero, pad-length, pad-past}
