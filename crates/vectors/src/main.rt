@@ -6,10 +6,8 @@ ghost use lib.ListN.{length};
 use libc::STDOUT_FILENO;
 use std::num::wrapping_add_u64 as plus;
 
-// The octets of a field's first line, and the longest line of hex with its line end.
+// The octets of a field's first line.
 const HEAD: usize = 18;
-
-const LINE: usize = 16384;
 
 // What reading a field finds: so many octets at the front of the buffer, the end of the file, or something else.
 enum Field {
@@ -303,7 +301,7 @@ fn room() -> [u8; 1048576]
 }
 
 fn main() {
-    let mut hex = [0u8; LINE];
+    let mut hex = io::large_buffer();
     let line: &mut [u8] = &mut hex;
     let mut space = room();
     let m: &mut [u8] = &mut space;

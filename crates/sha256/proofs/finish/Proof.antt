@@ -54,7 +54,8 @@ compress-requires c κs = search needs
 last-requires : tie.Need-last-requires Inv-loop μ-loop
 last-requires c κs =
     let s = c .before .before .before .before in
-    (search needs, room HighFirst (s .args .m .now) (s .args .before) (s .pre .0) (c .before .before .loop .i) (c .before .loop-test .taken))
+    let e = room HighFirst (s .args .m .now) (s .args .before) (s .pre .0) (c .before .before .loop .i) (c .before .loop-test .taken) in
+    (omega arith, omega arith, omega arith, omega arith, e)
 
 slice-aggregate-compress : tie.Need-slice-aggregate-compress Inv-loop μ-loop
 slice-aggregate-compress c = search needs
