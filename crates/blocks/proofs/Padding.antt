@@ -100,11 +100,10 @@ module _ (order : Order) (n : ℕ) where
         ∙ ap (take 64) (sym (drop-append-le at z bits (omega arith)) ∙ ap (drop at) (sym (padded m)))
 
 -- a block that lies in m is the block of m with its padding
-pub inside : (m p : List ℕ) (at e : ℕ) → e ≡ at + 64 → e ≤ length m → take (e - at) (drop at m) ≡ take 64 (drop at (m ++ p))
-inside m p at e q h =
-    let a : e - at ≡ 64 = omega arith in
+pub inside : (m p : List ℕ) (at : ℕ) → at + 64 ≤ length m → take 64 (drop at m) ≡ take 64 (drop at (m ++ p))
+inside m p at h =
     let k : 64 ≤ length (drop at m) = rw length-drop (omega arith) in
-    rw (a, drop-append-le at m p (omega arith), take-append-le 64 (drop at m) p k)
+    sym (rw (drop-append-le at m p (omega arith), take-append-le 64 (drop at m) p k))
 
 -- m, after whole blocks, with its padding: how many blocks
 module _ (order : Order) (m : List ℕ) (before : ℕ) (whole : before % 64 ≡ 0) where
