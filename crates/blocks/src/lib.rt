@@ -1,9 +1,9 @@
 // Words and octets, and a message's last blocks: what the hash functions over 64-octet blocks share.
 // FIPS 180-4, 3.1 and 5.1.1, for SHA-256 and later SHA-1; RFC 1321, 3.1 and 3.2, for MD5.
 ghost use mathlib.Core.Path.{_≡_};
-ghost use Prim.Native.Nat.{_+_, _<_, _≤_, _^_};
-ghost use mathlib.Core.List.{_++_};
-ghost use lib.ListN.{getD, length, take, drop};
+ghost use Prim.Native.Nat.{_+_, _*_, _%_, _<_, _≤_, _^_};
+ghost use mathlib.Core.List.{_++_, _∷_};
+ghost use lib.ListN.{getD, length, take, drop, replicate};
 ghost use Rattle.flow.specs.Front.{Put};
 ghost use Rattle.blocks.specs.Words.{word as wordOf, be32, be64};
 ghost use Rattle.blocks.specs.Blocks.{lengthIn, padding};
@@ -78,39 +78,43 @@ fn length_octet(x: u64, i: usize, order: Order) -> u8
     }
 }
 
-// The octet at j of what follows a message of n octets.
-fn pad_octet(order: Order, n: usize, j: usize) -> u8
-    requires { ⌜ n < 2 ^ 60 ⌝ }
-    ensures { λ r. ⌜ r ≡ getD (padding order n) j 0 ⌝ }
+// Writes the length of a message of n octets, in bits, into the last eight octets of a block.
+fn put_length(order: Order, b: &mut [u8], n: usize)
+    requires { ⌜ (n < 2 ^ 60) × (length (now b) ≡ 64) ⌝ }
+    ensures { λ _. ⌜ now (b .exit) ≡ take 56 (now (b .entry)) ++ lengthIn order (8 * n) ⌝ }
 {
-    if j == 0 {
-        return 128;
-    }
-    let z = (119 - n % 64) % 64;
-    if j < z + 1 {
-        return 0;
-    }
-    if j < z + 9 {
-        return length_octet((8 * n) as u64, j - z - 1, order);
-    }
-    0
-}
-
-// The block at `at` of m and the padding of a message of n octets that ends with m.
-pub fn last(order: Order, m: &[u8], n: usize, at: usize) -> [u8; 64]
-    requires { ⌜ (n < 2 ^ 60) × (at + 64 ≤ length (now m ++ padding order n)) ⌝ }
-    ensures { λ r. ⌜ r ≡ take 64 (drop at (now (m .entry) ++ padding order n)) ⌝ }
-{
-    let mut b = [0u8; 64];
-    let mut j: usize = 0;
+    let bits = 8 * n;
+    let mut j: usize = 56;
     while j < 64 {
-        let i = at + j;
-        if i < m.len() {
-            b[j] = m[i];
-        } else {
-            b[j] = pad_octet(order, n, i - m.len());
-        }
+        b[j] = length_octet(bits as u64, j - 56, order);
         j += 1;
     }
+}
+
+// The block at `at` of m, the octet 0x80 and zeros.
+fn marked(m: &[u8], at: usize) -> [u8; 64]
+    requires { ⌜ (length (now m) < at + 64) × (at ≤ length (now m) + 64) ⌝ }
+    ensures { λ r. ⌜ r ≡ take 64 (drop at (now (m .entry) ++ 0x80 ∷ replicate 128 0)) ⌝ }
+{
+    let mut b = [0u8; 64];
+    let end = m.len();
+    if end < at {
+        return b;
+    }
+    bytes::copy(&m[at..end], &mut b);
+    b[end - at] = 128;
+    b
+}
+
+// The block at `at` of m and the padding of a message of n octets that ends with m, where m does not fill the block.
+pub fn last(order: Order, m: &[u8], n: usize, at: usize) -> [u8; 64]
+    requires { ⌜ (n < 2 ^ 60) × (n % 64 ≡ length (now m) % 64) × (at % 64 ≡ 0) × (length (now m) < at + 64) × (at + 64 ≤ length (now m ++ padding order n)) ⌝ }
+    ensures { λ r. ⌜ r ≡ take 64 (drop at (now (m .entry) ++ padding order n)) ⌝ }
+{
+    let mut b = marked(m, at);
+    if at + 55 < m.len() {
+        return b;
+    }
+    put_length(order, &mut b, n);
     b
 }
