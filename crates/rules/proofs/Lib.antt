@@ -1,0 +1,2 @@
+pub mod Wipe
+pub mod Erased
