@@ -1,2 +1,3 @@
 pub mod Wipe
 pub mod Erased
+pub mod Secret
