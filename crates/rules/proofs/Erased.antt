@@ -1,43 +1,42 @@
 -- Each rule goes through the wipe: to wipe what it decides is to let it decide over what is wiped.
-use Prim.Native.Nat.{ℕ, _+_, _≤_}
-use mathlib.Core.Path.{_≡_, refl, sym, ap, ap₂, _∙_}
-use mathlib.Core.Bool.{Bool, true, false, not, _&&_}
-use mathlib.Core.List.{List, [], _∷_, map}
+use Prim.Native.Nat.{ℕ, _≤_}
+use mathlib.Core.Path.{_≡_, refl, sym, ap, _∙_}
+use mathlib.Core.Bool.{Bool, true, false}
+use mathlib.Core.List.{List, map}
 use lib.Dec.{ltb, eqb}
-use lib.ListN.{length, getD, set, replicate}
+use lib.ListN.{length}
 use Rattle.flow.specs.Choice.{pick}
-use Rattle.flow.specs.Result.{Result, refused, ok, _>>=_, _>>_, refuse, need, mapR}
-use Rattle.flow.specs.Search.{first, firstFrom, orElse}
+use Rattle.flow.specs.Result.{_>>_, refuse, mapR}
+use Rattle.flow.specs.Search.{first}
 use Rattle.flow.specs.declared.Found.{Found}
 use Rattle.flow.specs.declared.Found.the-variants.{At, Nothing}
 use Rattle.flow.proofs.Choices.{map-pick}
 use Rattle.flow.proofs.Chains.{map-then, map-bind}
 use Rattle.octets.specs.Octets.{same}
 use Rattle.octets.proofs.Laws.{same-equal, and-right}
-use Rattle.names.specs.Name.{nameOf, octetsOf}
+use Rattle.names.specs.Name.{octetsOf}
 use Rattle.names.specs.declared.Name.{Name}
 use Rattle.names.proofs.Laws.{octets-of}
 use Rattle.hmac.proofs.Laws.{length-hmac}
 use Rattle.ksnaf.specs.KsNaf.{ksNaf}
-use Rattle.records.specs.declared.Entry.{Entry}
 use Rattle.records.specs.declared.Settings.{Settings}
 use Rattle.records.specs.declared.Run.{Run}
 use Rattle.records.specs.declared.Session.{Session}
 use Rattle.records.specs.Settings.{noSettings, isEntry, offers}
-use Rattle.records.specs.Rows.{noRun, noSession, startedRun, filledRun, isOpen, isRun, isOther, isRight, sessionOf, isLive, isOwn, hasRand}
+use Rattle.records.specs.Rows.{noSession, startedRun, filledRun, isOpen, isRun, isOther, sessionOf, isLive, isOwn, hasRand}
 use Rattle.brought.specs.declared.Quintet.{Quintet}
 use Rattle.shelves.specs.declared.Policy.{Policy}
-use Rattle.tables.specs.Tables.{isFree, placeFor}
-use Rattle.tables.specs.State.{runAt, sessionAt, offeredAt, offeredTo, randSeen, started, filled, ended, established}
+use Rattle.tables.specs.Tables.{placeFor}
+use Rattle.tables.specs.State.{sessionAt, offeredAt, offeredTo, randSeen, started, filled, ended, established}
 use Rattle.tables.specs.declared.State.{State}
-use Rattle.answer.specs.Answer.{Wanted, absent, present, Answer}
+use Rattle.answer.specs.Answer.{Wanted, absent, present}
 use Rattle.outcome.specs.Outcome.{Done, answered}
 use Rattle.rules.specs.Start.{opens, startRule}
 use Rattle.rules.specs.Vector.{noCopy, chosen, challenges, fills, vectorRule}
 use Rattle.rules.specs.Response.{makes, fails, concludes, abortRule}
 use Rattle.rules.specs.Key.{isNamed, entryAt, entryFor, isAbsent, wanted, lacks, grants, keyRule, keyFor}
 use Rattle.rules.specs.Private.{isOf, veil, wipeEntry, wipeSettings, wipeRun, wipeSessionBy, wipeSession, wipeState, wipeQuintet, wipeWanted, wipeAnswer}
-use Rattle.rules.proofs.Wipe.{set-map, first-left, first-passes, veil-false, veil-length, zeros-left, zero-left, settings-none, run-none, run-at, session-at, entry-at}
+use Rattle.rules.proofs.Wipe.{set-map, first-left, first-passes, veil-false, veil-length, zero-left, settings-none, run-none, run-at, session-at, entry-at}
 
 -- an outcome with the private matter of p wiped from its answer and from its next state
 unfoldable pub wipeDone : List ℕ → Done → Done

@@ -3,30 +3,28 @@
 use Prim.Native.Nat.{ℕ, _+_, _-_, _≤_}
 use native.Mathlib.Omega.{arith}
 use mathlib.Core.Path.{_≡_, refl, sym, ap, ap₂, _∙_}
-use mathlib.Core.Bool.{Bool, true, false, not, _&&_, true≢false}
-use mathlib.Core.List.{List, [], _∷_, map}
+use mathlib.Core.Bool.{Bool, true, false, not, true≢false}
+use mathlib.Core.List.{List, _∷_}
 use lib.Dec.{ltb, eqb}
-use lib.ListN.{length, take, drop, length-take}
+use lib.ListN.{length, take, length-take}
 use Rattle.flow.specs.Choice.{pick}
 use Rattle.flow.specs.Result.{Result, refused, ok, _>>=_, _>>_, refuse, need, mapR}
-use Rattle.flow.specs.Front.{front}
 use Rattle.flow.specs.Reply.{replyOf, bufferOf}
 use Rattle.flow.specs.declared.Reply.{Reply}
-use Rattle.flow.specs.Search.{first, firstFrom}
+use Rattle.flow.specs.Search.{first}
 use Rattle.flow.specs.declared.Found.{Found}
 use Rattle.flow.specs.declared.Found.the-variants.{At, Nothing}
 use Rattle.flow.proofs.Chains.{map-then, map-bind}
 use Rattle.octets.specs.Octets.{same}
-use Rattle.names.specs.Name.{octetsOf}
 use Rattle.line.specs.Ranges.{UA}
-use Rattle.line.specs.Text.{between, Inside}
+use Rattle.line.specs.Text.{between}
 use Rattle.event.specs.Layout.{eventOf as decoded}
 use Rattle.event.specs.Ranged.{InRange}
 use Rattle.event.specs.declared.Event.{Event}
 use Rattle.event.specs.declared.Event.the-variants.{Start, Vector, Response, Abort, Key, Bad}
 use Rattle.event.proofs.Ranges.{in-range}
 use Rattle.brought.specs.Brought.{quintetOf, settingsOf}
-use Rattle.records.specs.Rows.{noRun, isOpen, isRun, isRight}
+use Rattle.records.specs.Rows.{isOpen, isRun, isRight}
 use Rattle.records.specs.declared.Run.{Run}
 use Rattle.shelves.specs.Shelf.{part, policyOf, policyFor}
 use Rattle.shelves.specs.declared.Row.{Row}
@@ -37,11 +35,11 @@ use Rattle.outcome.specs.Outcome.{Done, octetsOf as answerOctets, stateOf}
 use Rattle.rules.specs.Start.{startRule}
 use Rattle.rules.specs.Vector.{vectorRule}
 use Rattle.rules.specs.Response.{concludes, responseRule, rightAt, rightFor, abortRule}
-use Rattle.rules.specs.Key.{keyRule, keyFor}
-use Rattle.rules.specs.Server.{rule, stepOf, askedIn, askedOf}
-use Rattle.rules.specs.History.{eventOf, Input, Output, decided, next, output}
-use Rattle.rules.specs.Private.{isOf, veil, wipeRunBy, wipeRun, wipeState, wipeAnswer, isAbout, wipedOctets}
-use Rattle.rules.specs.Secrecy.{Res, uncompared, own, other, View, FORM, START, VECTOR, RESPONSE, ABORT, KEY, named, resFor, resAt, view, seen, AlikeAt, Alike, isOwn, wipedBuffer, SameAt, Same, Demand3}
+use Rattle.rules.specs.Key.{keyRule}
+use Rattle.rules.specs.Server.{rule, stepOf, askedIn}
+use Rattle.rules.specs.History.{eventOf, Input, Output, decided, next, output, outputs}
+use Rattle.rules.specs.Private.{isOf, wipeRunBy, wipeRun, wipeState, wipedOctets}
+use Rattle.rules.specs.Secrecy.{Res, uncompared, own, other, View, FORM, START, VECTOR, RESPONSE, ABORT, KEY, named, resFor, resAt, view, seen, AlikeAt, Alike, isOwn, wipedBuffer, SameAt, Same, Demand3, Unasked, Unseen, isTold, isCompared, Premise}
 use Rattle.rules.specs.Secrecy as S
 use Rattle.rules.proofs.Wipe.{passed, needed, first-left, veil-false, run-at, answer-length, answer-left, about-left}
 use Rattle.rules.proofs.Erased.{wipeDone, concludes-erased, abort-erased, start-erased, vector-erased, keyLeft, key-erased}
@@ -206,3 +204,64 @@ module _ (p : List ℕ) where
 
   pub demand-3 : Demand3 p
   demand-3 s xs xs′ a = alike-same s s xs xs′ refl a
+
+  -- ---- what follows
+
+  output-same : (s s′ : State) (x x′ : Input) → SameAt p s s′ x x′ → isOwn p (decided s x) ≡ false → output s x ≡ output s′ x′
+  output-same s s′ x x′ a e = λ i. record { number = a .number i; length = a .length i; new = a .others e i }
+
+  -- nothing of the answers but those about p is left open
+  outputs-same : (s s′ : State) (xs xs′ : List Input) → Same p s s′ xs xs′ → Unasked p s xs → outputs s xs ≡ outputs s′ xs′
+  unfolding outputs
+  outputs-same s s′ xs xs′ S.Same.end u = refl
+  outputs-same s s′ xs xs′ (S.Same.and {x = x} {x′ = x′} {xs = ys} {xs′ = ys′} a rest) (S.Unasked.and e u) =
+      ap₂ (λ (o : Output) (os : List Output). o ∷ os) (output-same s s′ x x′ a e) (outputs-same (next s x) (next s′ x′) ys ys′ rest u)
+
+  pub unseen : Unseen p
+  unseen s xs xs′ a u = outputs-same s s xs xs′ (demand-3 s xs xs′ a) u
+
+  -- ---- what the premise asks
+
+  run-alike : (s s′ : State) (i : ℕ) → wipeState p s ≡ wipeState p s′ → wipeRun p (runAt s i) ≡ wipeRun p (runAt s′ i)
+  unfolding wipeState
+  run-alike s s′ i h = sym (run-at p (s .runs .rows) i) ∙ ap (λ (y : State). runAt y i) h ∙ run-at p (s′ .runs .rows) i
+
+  -- a RES that is not told shows the same to two runs that are alike
+  res-alike : (r r′ : Run) (res : List ℕ) → wipeRun p r ≡ wipeRun p r′ → isTold (resFor p res r) ≡ false → resFor p res r ≡ resFor p res r′
+  unfolding resFor isTold pick wipeRun
+  res-alike r r′ res h e =
+      go (r .challenged) (isOf p (r .impi)) (isRight res r) (isRight res r′) e
+      ∙ ap (λ (y : Run). pick (y .challenged) (pick (isOf p (y .impi)) (own (isRight res r′)) (other res)) uncompared) h
+    where
+      go : (c b v w : Bool) → isTold (pick c (pick b (own v) (other res)) uncompared) ≡ false
+          → pick c (pick b (own v) (other res)) uncompared ≡ pick c (pick b (own w) (other res)) uncompared
+      go true true v w e = absurd (true≢false e)
+      go true false v w e = refl
+      go false b v w e = refl
+
+  at-alike : (s s′ : State) (res : List ℕ) (f : Found) → wipeState p s ≡ wipeState p s′ → isTold (resAt p s res f) ≡ false → resAt p s res f ≡ resAt p s′ res f
+  unfolding resAt
+  at-alike s s′ res Nothing h e = refl
+  at-alike s s′ res (At i) h e = res-alike (runAt s i) (runAt s′ i) res (run-alike s s′ i h) e
+
+  named-left : (s : State) (room t restart n : ℕ) → named (wipeState p s) room t restart n ≡ named s room t restart n
+  unfolding named wipeState wipeRun isRun isOpen
+  named-left s room t restart n = simp first-left
+
+  named-alike : (s s′ : State) (room t restart n : ℕ) → wipeState p s ≡ wipeState p s′ → named s room t restart n ≡ named s′ room t restart n
+  named-alike s s′ room t restart n h = sym (named-left s room t restart n) ∙ ap (λ (y : State). named y room t restart n) h ∙ named-left s′ room t restart n
+
+  view-alike : (s s′ : State) (room : ℕ) (body : List ℕ) (e : Event) → wipeState p s ≡ wipeState p s′ → isCompared (view p s room body e) ≡ false → view p s room body e ≡ view p s′ room body e
+  unfolding view isCompared
+  view-alike s s′ room body Bad h c = refl
+  view-alike s s′ room body (Start t a z) h c = refl
+  view-alike s s′ room body (Vector t restart n a z rand autn x xz ck ik kind lifetime timestamp count entries) h c = refl
+  view-alike s s′ room body (Response t restart n a z) h c =
+      ap (RESPONSE t restart n)
+        (at-alike s s′ (between body a z) (named s room t restart n) h c ∙ ap (resAt p s′ (between body a z)) (named-alike s s′ room t restart n h))
+  view-alike s s′ room body (Abort t restart n) h c = refl
+  view-alike s s′ room body (Key t q qz b bz f fz application) h c = refl
+
+  pub premise : Premise p
+  unfolding seen
+  premise s s′ x h c = record { rows = refl; old = refl; events = view-alike s s′ (length (x .old)) (x .body) (decoded (x .body)) h c }

@@ -1,23 +1,19 @@
 -- Laws of the wipe: zeros have nothing to wipe, what is read of a wiped table is the wiped row, and lengths stay.
-use Prim.Native.Nat.{ℕ, zero, suc, _+_, _-_, _≤_}
+use Prim.Native.Nat.{ℕ, zero, suc, _-_, _≤_}
 use native.Mathlib.Omega.{arith}
-use mathlib.Core.Path.{_≡_, refl, sym, ap, ap₂, _∙_}
-use mathlib.Core.Bool.{Bool, true, false, not, _&&_}
-use mathlib.Core.List.{List, [], _∷_, _++_, map}
-use lib.Dec.{ltb, eqb}
-use lib.ListN.{length, getD, set, take, replicate, length-map, length-take, List·getD-map}
+use mathlib.Core.Path.{_≡_, refl, sym, ap, _∙_}
+use mathlib.Core.Bool.{Bool, true, false}
+use mathlib.Core.List.{List, [], _∷_, map}
+use lib.ListN.{length, getD, set, length-map, length-take, List·getD-map}
 use Rattle.flow.specs.Choice.{pick}
-use Rattle.flow.specs.Result.{Result, refused, ok, _>>=_, _>>_, refuse, need}
+use Rattle.flow.specs.Result.{Result, _>>=_, _>>_, refuse, need}
 use Rattle.flow.specs.Search.{first, firstFrom}
 use Rattle.flow.specs.declared.Found.{Found}
 use Rattle.flow.specs.declared.Found.the-variants.{At, Nothing}
-use Rattle.flow.specs.Front.{_▹_}
 use Rattle.flow.proofs.Fronts.{fields-length}
 use Rattle.flow.proofs.Searches.{first-same}
-use Rattle.line.specs.Number.{encode}
-use Rattle.names.specs.Name.{noName, octetsOf}
+use Rattle.names.specs.Name.{noName}
 use Rattle.records.specs.declared.Entry.{Entry}
-use Rattle.records.specs.declared.Settings.{Settings}
 use Rattle.records.specs.declared.Run.{Run}
 use Rattle.records.specs.declared.Session.{Session}
 use Rattle.records.specs.Settings.{noEntry, noSettings}
@@ -78,12 +74,6 @@ veil-length (v ∷ x) [] e = absurd (omega (arith, e))
 veil-length (v ∷ x) (w ∷ y) e = ap (λ (z : List ℕ). 0 ∷ z) (veil-length x y (omega (arith, e)))
 
 -- ---- zeros have nothing to wipe
-
-pub zeros-left : (b : Bool) (n : ℕ) → veil b (replicate n 0) ≡ replicate n 0
-unfolding pick
-zeros-left b zero = refl
-zeros-left true (suc n) = ap (λ (x : List ℕ). 0 ∷ x) (zeros-left true n)
-zeros-left false (suc n) = ap (λ (x : List ℕ). 0 ∷ x) (zeros-left false n)
 
 pub zero-left : (b : Bool) → _≡_ {A = ℕ} (pick b 0 0) 0
 unfolding pick

@@ -3,7 +3,7 @@
 -- flags, user names and keys stay as they are, the length of an XRES does not. What is not wiped here is public: every number, name, moment,
 -- RAND and AUTN, which applications and groups the settings have, and all that is another student's.
 use Prim.Native.Nat.{ℕ}
-use mathlib.Core.Bool.{Bool, true, false}
+use mathlib.Core.Bool.{Bool, false}
 use mathlib.Core.List.{List, map}
 use Rattle.flow.specs.Choice.{pick}
 use Rattle.octets.specs.Octets.{same}

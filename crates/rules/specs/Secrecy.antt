@@ -28,8 +28,8 @@ use Rattle.tables.specs.State.{runAt}
 use Rattle.tables.specs.declared.State.{State}
 use Rattle.answer.specs.Answer.{ROOM}
 use Rattle.outcome.specs.Outcome.{Done}
-use Rattle.rules.specs.History.{Input, decided, next, output}
-use Rattle.rules.specs.Private.{isOf, wipeSettings, wipeQuintet, isAbout, wipedOctets}
+use Rattle.rules.specs.History.{Input, decided, next, output, outputs}
+use Rattle.rules.specs.Private.{isOf, wipeSettings, wipeState, wipeQuintet, isAbout, wipedOctets}
 
 -- ---- what an event shows, once the private matter of p is wiped from it
 
@@ -113,6 +113,36 @@ pub data Same (p : List ℕ) : State → State → List Input → List Input →
   end : {s s′ : State} → Same p s s′ [] []
   and : {s s′ : State} {x x′ : Input} {xs xs′ : List Input} → SameAt p s s′ x x′ → Same p (next s x) (next s′ x′) xs xs′ → Same p s s′ (x ∷ xs) (x′ ∷ xs′)
 
--- demand 3, of the student p: `demand-3` of proofs/Secret shows it for every p
+-- demand 3, of the student p: `demand-3` of proofs/Secret shows it for every p. One opening: whatever state it handed back
 abbrev pub Demand3 : List ℕ → Type 0
 Demand3 p = (s : State) (xs xs′ : List Input) → Alike p s s xs xs′ → Same p s s xs xs′
+
+-- ---- what follows
+
+-- no event of a history is answered about a session of p
+pub data Unasked (p : List ℕ) : State → List Input → Type 0 where
+  end : {s : State} → Unasked p s []
+  and : {s : State} {x : Input} {xs : List Input} → isOwn p (decided s x) ≡ false → Unasked p (next s x) xs → Unasked p s (x ∷ xs)
+
+-- whoever is answered about other students alone sees no difference at all
+abbrev pub Unseen : List ℕ → Type 0
+Unseen p = (s : State) (xs xs′ : List Input) → Alike p s s xs xs′ → Unasked p s xs → outputs s xs ≡ outputs s xs′
+
+unfoldable pub isTold : Res → Bool
+isTold uncompared = false
+isTold (own b) = true
+isTold (other res) = false
+
+-- the event is a RESPONSE, and it is compared with the XRES of a run of p
+unfoldable pub isCompared : View → Bool
+isCompared FORM = false
+isCompared (START t impi) = false
+isCompared (VECTOR t restart n impi q kind given) = false
+isCompared (RESPONSE t restart n v) = isTold v
+isCompared (ABORT t restart n) = false
+isCompared (KEY t peer btid fqdn naf application) = false
+
+-- the premise asks no more than the demand says: on states that are alike an event that is the same in both histories shows the same, except a
+-- RESPONSE that is compared with the XRES of a run of p
+abbrev pub Premise : List ℕ → Type 0
+Premise p = (s s′ : State) (x : Input) → wipeState p s ≡ wipeState p s′ → isCompared (seen p s x) ≡ false → AlikeAt p s s′ x x
