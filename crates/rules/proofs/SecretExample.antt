@@ -1,18 +1,18 @@
 -- The hypothesis of demand 3 is met: two histories of the student a@b, START, VECTOR, RESPONSE and KEY, whose XRES, CK, IK, flags and user names
 -- all differ, the XRES in length too. Each event of both is answered, and the last answer is about a session of that student.
-use Prim.Native.Nat.{ℕ, _+_, _-_}
+use Prim.Native.Nat.{ℕ}
 use mathlib.Core.Path.{_≡_, refl}
-use mathlib.Core.Bool.{Bool, true, false, not, _&&_, _||_}
+use mathlib.Core.Bool.{true}
 use mathlib.Core.List.{List, [], _∷_, _++_, map}
-use lib.ListN.{length, take, drop, replicate, getD, set}
+use lib.ListN.{length, replicate}
 use Rattle.flow.specs.Choice.{pick}
-use Rattle.flow.specs.Front.{_▹_, front}
-use Rattle.flow.specs.Reply.{replyOf, bufferOf}
+use Rattle.flow.specs.Front.{_▹_}
+use Rattle.flow.specs.Reply.{replyOf}
 use Rattle.flow.specs.Result.{_>>=_, _>>_, refuse, need, mapR}
 use Rattle.flow.specs.Search.{firstFrom, orElse, found}
 use Rattle.octets.specs.Octets.{same as sameOctets, padded}
 use Rattle.names.specs.Name.{octetsOf, isHost, nameOf}
-use Rattle.line.specs.Number.{encodeIn, withNum, groupsAt}
+use Rattle.line.specs.Number.{withNum, groupsAt}
 use Rattle.line.specs.Text.{withSpan}
 use Rattle.settings.specs.Layout.{withEntry, absentAt, entriesAt, settingsAt, withSettings}
 use Rattle.event.specs.Layout.{withNamed, withQuintet, eventOf as decoded}
@@ -24,14 +24,13 @@ use Rattle.records.specs.Rows.{noRun, noSession, startedRun, filledRun, isOpen,
 use Rattle.shelves.specs.Shelf.{part, isRow, policyAt, policyOf}
 use Rattle.shelves.specs.declared.Row.{Row}
 use Rattle.tables.specs.Tables.{placeFor}
-use Rattle.tables.specs.State.{offeredAt, offeredTo, randSeen, started, filled, ended, established}
+use Rattle.tables.specs.State.{offeredAt, offeredTo, randSeen, started, filled, established}
 use Rattle.tables.specs.declared.State.{State}
-use Rattle.answer.specs.Answer.{encodeOf, identityOf, wantedOf}
-use Rattle.outcome.specs.Outcome.{answered, octetsOf as answerOctets, stateOf}
+use Rattle.outcome.specs.Outcome.{answered, stateOf}
 use Rattle.rules.specs.Opening.{fresh}
 use Rattle.rules.specs.Start.{opens, startRule}
 use Rattle.rules.specs.Vector.{noCopy, chosen, challenges, fills, vectorRule}
-use Rattle.rules.specs.Response.{makes, fails, concludes, responseRule, rightAt, abortRule}
+use Rattle.rules.specs.Response.{makes, concludes, responseRule, rightAt}
 use Rattle.rules.specs.Key.{isNamed, entryAt, entryFor, isAbsent, wanted, lacks, grants, keyRule}
 use Rattle.rules.specs.Server.{rule, stepOf, askedIn}
 use Rattle.rules.specs.History.{eventOf, Input, Output, decided, next, output, outputs, after}
@@ -79,7 +78,7 @@ signsIn : Matter → List Input
 signsIn m =
     sent (1 ∷ 100 ∷ 3 ∷ p)
     ∷ sent (2 ∷ 101 ∷ 7 ∷ 1 ∷ 3 ∷ p ++ rand ++ replicate 16 9 ++ (length (m .xres) ∷ m .xres) ++ m .ck ++ m .ik
-        ++ (2 ∷ 0 ∷ 5 ∷ 1 ∷ 1 ∷ 0 ∷ m .flags) ++ (length (m .user) ∷ m .user))
+    ++ (2 ∷ 0 ∷ 5 ∷ 1 ∷ 1 ∷ 0 ∷ m .flags) ++ (length (m .user) ∷ m .user))
     ∷ sent (3 ∷ 102 ∷ 7 ∷ 1 ∷ length (m .xres) ∷ m .xres)
     ∷ []
 
@@ -99,7 +98,7 @@ record Shown : Type 0 where
   alike : Alike p state state (history one) (history two)
 
 shown : Shown
-unfolding p domain state shelf rand sent asks signsIn history one two pick _▹_ front replyOf bufferOf _>>=_ _>>_ refuse need mapR firstFrom orElse found sameOctets padded octetsOf isHost encodeIn withNum groupsAt withSpan withEntry absentAt entriesAt settingsAt withSettings withNamed withQuintet decoded quintetOf entryOf withFields entriesFrom entriesOf settingsOf base64 btid noSettings isEntry offers noRun noSession startedRun filledRun isOpen isRun isOther isRight sessionOf isOwnSession hasRand part isRow policyAt policyOf placeFor offeredAt offeredTo randSeen started filled ended established wantedOf answered answerOctets stateOf fresh opens startRule noCopy chosen challenges fills vectorRule makes fails concludes responseRule rightAt abortRule isNamed entryAt entryFor isAbsent wanted lacks grants keyRule rule stepOf askedIn eventOf next output outputs after isAbout named resFor resAt view seen isOwn
+unfolding p domain state shelf rand sent asks signsIn history one two pick _▹_ replyOf _>>=_ _>>_ refuse need mapR firstFrom orElse found sameOctets padded octetsOf isHost withNum groupsAt withSpan withEntry absentAt entriesAt settingsAt withSettings withNamed withQuintet decoded quintetOf entryOf withFields entriesFrom entriesOf settingsOf base64 btid noSettings isEntry offers noRun noSession startedRun filledRun isOpen isRun isOther isRight sessionOf isOwnSession hasRand part isRow policyAt policyOf placeFor offeredAt offeredTo randSeen started filled established answered stateOf fresh opens startRule noCopy chosen challenges fills vectorRule makes concludes responseRule rightAt isNamed entryAt entryFor isAbsent wanted lacks grants keyRule rule stepOf askedIn eventOf next output outputs after isAbout named resFor resAt view seen isOwn
 shown = record {
   answered-one = refl;
   answered-two = refl;

@@ -67,8 +67,8 @@ view p s room body Bad = FORM
 view p s room body (Start t a z) = START t (between body a z)
 view p s room body (Vector t restart n a z rand autn x xz ck ik kind lifetime timestamp count entries) =
     VECTOR t restart n (between body a z)
-      (wipeQuintet (same (between body a z) p) (quintetOf body rand autn x xz ck ik))
-      kind (wipeSettings (same (between body a z) p) (settingsOf body lifetime timestamp count entries))
+    (wipeQuintet (same (between body a z) p) (quintetOf body rand autn x xz ck ik))
+    kind (wipeSettings (same (between body a z) p) (settingsOf body lifetime timestamp count entries))
 view p s room body (Response t restart n a z) = RESPONSE t restart n (resAt p s (between body a z) (named s room t restart n))
 view p s room body (Abort t restart n) = ABORT t restart n
 view p s room body (Key t q qz b bz f fz application) =
