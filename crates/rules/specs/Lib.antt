@@ -5,3 +5,5 @@ pub mod Response
 pub mod Key
 pub mod Server
 pub mod History
+pub mod Private
+pub mod Secrecy
