@@ -15,7 +15,9 @@ use Rattle.flow.specs.Choice.{pick}
 use Rattle.flow.specs.Front.{_▹_}
 use Rattle.flow.proofs.Choices.{yes-back}
 use Rattle.base64.specs.Base64.{letterOf, PAD, base64}
-use Rattle.base64.specs.Btid.{btid, AT, RAND, Octets}
+use Rattle.base64.specs.Btid.{btid, AT}
+use Rattle.line.specs.Ranges.{BARE}
+use Rattle.line.specs.Number.{Octets}
 use Rattle.base64.proofs.Laws.{btid-size}
 
 -- the value of a letter, and 64 for the pad
@@ -96,10 +98,10 @@ length-base64 (a ∷ b ∷ []) = refl
 length-base64 (a ∷ b ∷ c ∷ s) = omega (arith, length-base64 s)
 
 -- a RAND has 16 octets, so its B-TID has 25 more than the domain
-pub btid-length : (rand domain : List ℕ) → length rand ≡ RAND → length (btid rand domain) ≡ 25 + length domain
+pub btid-length : (rand domain : List ℕ) → length rand ≡ BARE → length (btid rand domain) ≡ 25 + length domain
 btid-length rand domain h = omega (arith, btid-size rand domain, length-base64 rand)
 
-pub btid-apart : (domain rand rand′ : List ℕ) → Octets rand → Octets rand′ → length rand ≡ RAND → length rand′ ≡ RAND → btid rand domain ≡ btid rand′ domain → rand ≡ rand′
+pub btid-apart : (domain rand rand′ : List ℕ) → Octets rand → Octets rand′ → length rand ≡ BARE → length rand′ ≡ BARE → btid rand domain ≡ btid rand′ domain → rand ≡ rand′
 unfolding btid _▹_
 btid-apart domain rand rand′ o o′ h h′ e =
     let l : length (base64 rand) ≡ length (base64 rand′) = omega (arith, length-base64 rand, length-base64 rand′) in
