@@ -1,4 +1,4 @@
-// Runs the published vectors of SHA-256 (NIST) and of HMAC with SHA-256 (RFC 4231), and says of each file how many
+// Runs the published vectors of SHA-256 (NIST) and of HMAC with SHA-256 (RFC 4231), and RFC 3548's examples of base64, and says of each how many
 // were run and how many came out equal. data/README.md says where the files come from and how they are laid out.
 ghost use mathlib.Core.Path.{_≡_};
 ghost use Prim.Native.Nat.{_+_, _*_, _<_, _≤_};
@@ -300,6 +300,25 @@ fn room() -> [u8; 1048576]
     [0; 1048576]
 }
 
+// Whether base64 of at most six octets is that text.
+fn is_base64(s: &[u8], text: &[u8]) -> bool {
+    if 6 < s.len() {
+        return false;
+    }
+    let mut out = [0u8; 8];
+    let n = base64::put_base64(s, &mut out);
+    octets::same(&out[..n], text)
+}
+
+// RFC 3548, section 7: its own examples.
+fn base64_examples() {
+    let three = Tally::new()
+        .count(is_base64(b"\x14\xfb\x9c\x03\xd9\x7e", b"FPucA9l+"))
+        .count(is_base64(b"\x14\xfb\x9c\x03\xd9", b"FPucA9k="))
+        .count(is_base64(b"\x14\xfb\x9c\x03", b"FPucAw=="));
+    three.report(b"RFC3548");
+}
+
 fn main() {
     let mut hex = io::large_buffer();
     let line: &mut [u8] = &mut hex;
@@ -310,4 +329,5 @@ fn main() {
     sha256_file(b"SHA256Examples", line, m);
     monte_file(b"SHA256Monte", line);
     hmac_file(b"RFC4231", line, m);
+    base64_examples();
 }
