@@ -18,7 +18,7 @@ static const uint32_t K[64] = {
 };
 
 static inline uint32_t rotr(uint32_t x, int n) { return x >> n | x << (32 - n); }
-static inline uint32_t ch(uint32_t x, uint32_t y, uint32_t z) { return (x & y) ^ (~x & z); }
+static inline uint32_t ch(uint32_t x, uint32_t y, uint32_t z) { return z ^ (x & (y ^ z)); }
 static inline uint32_t maj(uint32_t x, uint32_t y, uint32_t z) { return (x & y) ^ (x & z) ^ (y & z); }
 static inline uint32_t big0(uint32_t x) { return rotr(x, 2) ^ rotr(x, 13) ^ rotr(x, 22); }
 static inline uint32_t big1(uint32_t x) { return rotr(x, 6) ^ rotr(x, 11) ^ rotr(x, 25); }
@@ -38,7 +38,8 @@ static inline Hash step(Hash s, uint32_t k, uint32_t w) {
 static Hash compress(Hash x, const uint8_t *b) {
     uint32_t w[64];
     for (int t = 0; t < 16; t++) w[t] = word(b + 4 * t);
-    for (int t = 16; t < 64; t++) w[t] = small1(w[t - 2]) + w[t - 7] + small0(w[t - 15]) + w[t - 16];
+    for (int t = 16; t < 64; t += 8)
+        for (int j = t; j < t + 8; j++) w[j] = small1(w[j - 2]) + w[j - 7] + small0(w[j - 15]) + w[j - 16];
     Hash s = x;
     for (int t = 0; t < 64; t += 8)
         for (int j = 0; j < 8; j++) s = step(s, K[t + j], w[t + j]);
