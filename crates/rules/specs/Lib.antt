@@ -5,3 +5,6 @@ pub mod Response
 pub mod Key
 pub mod Server
 pub mod History
+pub mod Said
+pub mod Exact
+pub mod Numbers
