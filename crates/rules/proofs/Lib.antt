@@ -3,3 +3,4 @@ pub mod Steps
 pub mod Sound
 pub mod Exact
 pub mod Numbers
+pub mod Late

@@ -86,3 +86,13 @@ module _ {A : Type 0} (d : A) where
         (λ g. subst (λ (a : A). R a (getD (set l i x) k d)) (sym e) (subst (R (getD l j d)) (sym g) (f j k n)))
         (put-row l i x k))
       (put-row l i x j)
+
+-- where no row passes, none is found
+module _ {A : Type 0} (p : A → Bool) (d : A) where
+  none-from : (i : ℕ) (l : List A) → ((k : ℕ) → k < length l → p (getD l k d) ≡ false) → firstFrom p i l ≡ Nothing
+  unfolding firstFrom pick
+  none-from i [] h = refl
+  none-from i (x ∷ l) h = rw (h 0 (omega arith)) (none-from (suc i) l (λ k q. h (suc k) (suc-le-suc q)))
+
+  pub none-found : (l : List A) → ((k : ℕ) → k < length l → p (getD l k d) ≡ false) → first p l ≡ Nothing
+  none-found l h = none-from 0 l h

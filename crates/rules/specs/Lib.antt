@@ -8,3 +8,4 @@ pub mod History
 pub mod Said
 pub mod Exact
 pub mod Numbers
+pub mod Late
