@@ -4,3 +4,4 @@ pub mod Sound
 pub mod Exact
 pub mod Numbers
 pub mod Late
+pub mod Marked

@@ -9,3 +9,4 @@ pub mod Said
 pub mod Exact
 pub mod Numbers
 pub mod Late
+pub mod Marked
