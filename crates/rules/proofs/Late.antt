@@ -37,7 +37,7 @@ use Rattle.rules.specs.Said.{Opened, number}
 use Rattle.rules.specs.Numbers.{runIn, given}
 use Rattle.rules.specs.Late.{timeOf, runNamed, runEnded, eventIn, staleRule, Late, EndedStaysEnded, Lapses, LapsedStaysLapsed, Untouched, TheIncident}
 use Rattle.rules.proofs.Tables.{put-all, none-found}
-use Rattle.rules.proofs.Steps.{Open, Did, refuses, starts, vectors, rights, wrongs, aborts, keys, policy, did}
+use Rattle.rules.proofs.Steps.{Open, nonzero, Did, refuses, starts, vectors, rights, wrongs, aborts, keys, policy, did}
 use Rattle.rules.proofs.Sound.{through, out-refused, Sound, sound-step, sound-opened, sound-after}
 use Rattle.rules.proofs.Exact.{silent}
 use Rattle.rules.proofs.Numbers.{Quiet, Gives, gives-step, last-step}
@@ -147,7 +147,7 @@ module _ (s : State) (w : Policy) (body : List ℕ) (h : Sound s) where
 
   ends : {e : Event} {o : Result Done} (n : ℕ) → n ≢ 0 → runEnded e ≡ n → replyOf (mapR octetsOf o) .no ≡ 0 → Did s w body e o → Only Gone n (stateOf s o)
   unfolding stateOf answered runEnded replyOf mapR
-  ends n z e q (refuses m) = absurd (m q)
+  ends n z e q (refuses m) = absurd (nonzero m q)
   ends n z e q (starts i c l f) = absurd (z (sym e))
   ends n z e q (vectors i o c m y d) = absurd (z (sym e))
   ends n z e q (rights {t = t} {restart = restart} i j o c r p) = rw (← e) (gone-made t restart _ i j _ o)
@@ -204,7 +204,7 @@ module _ (s : State) (w : Policy) (body : List ℕ) (h : Sound s) where
 
   was-open : {t restart n : ℕ} {e : Event} {o : Result Done} → e ≡ Abort t restart n → replyOf (mapR octetsOf o) .no ≡ 0 → Did s w body e o → Was n
   unfolding replyOf mapR
-  was-open q z (refuses m) = absurd (m z)
+  was-open q z (refuses m) = absurd (nonzero m z)
   was-open q z (starts i c l f) = let z : _≡_ {A = ℕ} 0 1 = cc in absurd (omega arith)
   was-open q z (vectors i o c m y d) = let z : _≡_ {A = ℕ} 0 1 = cc in absurd (omega arith)
   was-open q z (rights i j o c r p) = let z : _≡_ {A = ℕ} 0 1 = cc in absurd (omega arith)

@@ -4,4 +4,5 @@ pub mod Sound
 pub mod Exact
 pub mod Numbers
 pub mod Late
+pub mod Room
 pub mod Marked

@@ -22,7 +22,7 @@ use Rattle.rules.specs.Opening.{fresh}
 use Rattle.rules.specs.History.{Input, decided, next, output, after}
 use Rattle.rules.specs.Said.{Opened, number}
 use Rattle.rules.specs.Numbers.{runIn, given, numbers, upFrom, Counted, RunsAreNumbered}
-use Rattle.rules.proofs.Steps.{Did, refuses, starts, vectors, rights, wrongs, aborts, keys, policy, did}
+use Rattle.rules.proofs.Steps.{nonzero, Did, refuses, starts, vectors, rights, wrongs, aborts, keys, policy, did}
 use Rattle.rules.proofs.Sound.{opened-fresh, out-refused}
 
 pub record Quiet (s : State) (o : Result Done) : Type 0 where
@@ -47,7 +47,7 @@ module _ (s : State) (w : Policy) (body : List ℕ) where
   -- an answered START gives one
   pub start-gives : {t a z : ℕ} {e : Event} {o : Result Done} → e ≡ Start t a z → Did s w body e o → replyOf (mapR octetsOf o) .no ≡ 0 → given o ≡ (s .last + 1) ∷ []
   unfolding given runIn answered mapR replyOf
-  start-gives q (refuses n) h = absurd (n h)
+  start-gives q (refuses n) h = absurd (nonzero n h)
   start-gives q (starts i c l f) h = refl
   start-gives q (vectors i o c m y d) h = let z : _≡_ {A = ℕ} 0 1 = cc in absurd (omega arith)
   start-gives q (rights i j o c r p) h = let z : _≡_ {A = ℕ} 0 1 = cc in absurd (omega arith)

@@ -9,6 +9,8 @@ use mathlib.Core.List.{List, [], _∷_, _++_}
 use lib.ListN.{length, getD, set, replicate, length-set, length-replicate}
 use Rattle.flow.specs.Result.{Result, refused, ok, mapR, _>>_, refuse}
 use Rattle.flow.specs.Reply.{replyOf, bufferOf}
+use Rattle.flow.proofs.Chains.{passes-set, passes-above}
+use Rattle.event.specs.Layout.{eventOf as decoded}
 use Rattle.event.specs.declared.Event.{Event}
 use Rattle.names.specs.declared.Name.{Name}
 use Rattle.records.specs.Rows.{noRun, noSession, startedRun, filledRun}
@@ -21,10 +23,11 @@ use Rattle.tables.specs.Tables.{RUNS, SESSIONS, putRun, putSession}
 use Rattle.tables.specs.State.{runAt, sessionAt, started, filled, ended, established}
 use Rattle.tables.specs.declared.Sessions.{Sessions}
 use Rattle.tables.specs.declared.State.{State}
-use Rattle.answer.specs.Answer.{Answer}
+use Rattle.answer.specs.Answer.{ROOM, Answer}
 use Rattle.outcome.specs.Outcome.{Done, answered, octetsOf, stateOf}
 use Rattle.rules.specs.Opening.{fresh, openRule}
-use Rattle.rules.specs.History.{Input, decided, next, output, after}
+use Rattle.rules.specs.Server.{rule, stepOf}
+use Rattle.rules.specs.History.{eventOf, Input, decided, next, output, after}
 use Rattle.rules.specs.Said.{Opened, answerOf, Answers, number}
 use Rattle.rules.proofs.Tables.{put-all, put-pairs}
 use Rattle.rules.proofs.Steps.{Open, Did, refuses, starts, vectors, rights, wrongs, aborts, keys, policy, did}
@@ -157,3 +160,8 @@ sound-opened s o = subst Sound (opened-fresh s o) (sound-fresh (o .domain) (o .r
 
 pub sound-after : (s : State) (xs : List Input) → Sound s → Sound (after s xs)
 sound-after s xs h = through Sound sound-step s xs h
+
+-- where the buffer is long enough, the rule of the event's kind decides
+pub in-front : (s : State) (x : Input) → s .ready ≡ true → ROOM ≤ length (x .old) → decided s x ≡ rule s (policy x) (x .body) (decoded (x .body))
+unfolding eventOf stepOf
+in-front s x h r = sym (passes-set 1 _ _ (s .ready) h (passes-above 2 _ _ (length (x .old)) ROOM r refl))

@@ -52,8 +52,20 @@ pub record Open (s : State) (t restart n i : ℕ) : Type 0 where
   pub soon : t < runAt s i .start .0 + 30
   pub found : first (isRun n t) (s .runs .rows) ≡ At i
 
+-- why an event is refused with n. The two refusals for want of a row say which rows; of any other it is enough that it is neither, nor 0
+pub data Why (s : State) : Event → ℕ → Type 0 where
+  other : {e : Event} {n : ℕ} → (n ≢ 0) × (n ≢ 6) × (n ≢ 13) → Why s e n
+  no-run : {t a z : ℕ} → s .clock .0 ≤ t → first (isFree t) (s .runs .rows) ≡ Nothing → Why s (Start t a z) 6
+  no-session : {t restart n a z : ℕ} (i : ℕ) → Open s t restart n i → runAt s i .challenged ≡ true
+      → placeFor (octetsOf (runAt s i .impi)) t (s .sessions .rows) ≡ Nothing → Why s (Response t restart n a z) 13
+
+pub nonzero : {s : State} {e : Event} {n : ℕ} → Why s e n → n ≢ 0
+nonzero (other h) = h .0
+nonzero (no-run c f) = omega arith
+nonzero (no-session i o c f) = omega arith
+
 pub data Did (s : State) (w : Policy) (body : List ℕ) : Event → Result Done → Type 0 where
-  refuses : {e : Event} {n : ℕ} → n ≢ 0 → Did s w body e (refused n)
+  refuses : {e : Event} {n : ℕ} → Why s e n → Did s w body e (refused n)
   starts : {t a z : ℕ} (i : ℕ) → s .clock .0 ≤ t → s .last < LAST → first (isFree t) (s .runs .rows) ≡ At i
       → Did s w body (Start t a z)
         (answered (opened (s .restart) (s .last + 1) (offeredTo (between body a z) t s .timestamp))
@@ -98,14 +110,14 @@ open-run s t restart n i c u e =
     }
 
 module _ (s : State) (w : Policy) (body : List ℕ) {e : Event} where
-  did-refuse : (n : ℕ) (b : Bool) (o : Result Done) → n ≢ 0 → (b ≡ false → Did s w body e o) → Did s w body e (refuse n b >> o)
+  did-refuse : (n : ℕ) (b : Bool) (o : Result Done) → (n ≢ 0) × (n ≢ 6) × (n ≢ 13) → (b ≡ false → Did s w body e o) → Did s w body e (refuse n b >> o)
   unfolding refuse _>>_
-  did-refuse n true o h k = refuses h
+  did-refuse n true o h k = refuses (other h)
   did-refuse n false o h k = k refl
 
-  did-need : (n : ℕ) (f : Found) (k : ℕ → Result Done) → n ≢ 0 → ((i : ℕ) → f ≡ At i → Did s w body e (k i)) → Did s w body e (need n f >>= k)
+  did-need : (n : ℕ) (f : Found) (k : ℕ → Result Done) → (f ≡ Nothing → Why s e n) → ((i : ℕ) → f ≡ At i → Did s w body e (k i)) → Did s w body e (need n f >>= k)
   unfolding need _>>=_
-  did-need n Nothing k h g = refuses h
+  did-need n Nothing k h g = refuses (h refl)
   did-need n (At i) k h g = g i refl
 
   -- kinds 2 to 4
@@ -114,7 +126,7 @@ module _ (s : State) (w : Policy) (body : List ℕ) {e : Event} where
   did-named t restart n k h =
       did-refuse _ _ _ (omega arith) λ c.
       did-refuse _ _ _ (omega arith) λ u.
-      did-need _ _ _ (omega arith) λ i f.
+      did-need _ _ _ (λ _. other (omega arith)) λ i f.
       h i (open-run s t restart n i (ltb-false t (s .clock .0) c) (eqb-true restart (s .restart) (not-false _ u)) f)
 
 right-at : (s : State) (t n i : ℕ) (res : List ℕ) (b : Bool) → first (isRun n t) (s .runs .rows) ≡ At i → rightFor s t n res ≡ b → rightAt s res (At i) ≡ b
@@ -125,17 +137,17 @@ module _ (s : State) (w : Policy) (body : List ℕ) where
   unfolding concludes makes fails pick
   did-concludes t restart n a z i true r o =
       did-refuse s w body _ _ _ (omega arith) λ c.
-      did-need s w body _ _ _ (omega arith) λ j e.
+      did-need s w body _ _ _ (no-session i o (not-false _ c)) λ j e.
       rights i j o (not-false _ c) r e
   did-concludes t restart n a z i false r o = did-refuse s w body _ _ _ (omega arith) λ c. wrongs i o (not-false _ c) r
 
   pub did-rule : (e : Event) → Did s w body e (rule s w body e)
   unfolding rule startRule opens vectorRule fills challenges responseRule abortRule keyRule grants
-  did-rule Bad = refuses {n = 3} (omega arith)
+  did-rule Bad = refuses (other {n = 3} (omega arith))
   did-rule (Start t a z) =
       did-refuse s w body _ _ _ (omega arith) λ c.
       did-refuse s w body _ _ _ (omega arith) λ l.
-      did-need s w body _ _ _ (omega arith) λ i f.
+      did-need s w body _ _ _ (no-run (ltb-false t (s .clock .0) c)) λ i f.
       starts i (ltb-false t (s .clock .0) c) (ltb-true (s .last) LAST (not-false _ l)) f
   did-rule (Vector t restart n a z rand autn x xz ck ik kind lifetime timestamp count entries) =
       did-named s w body t restart n _ λ i o.
@@ -151,7 +163,7 @@ module _ (s : State) (w : Policy) (body : List ℕ) where
   did-rule (Key t p pz b bz f fz application) =
       did-refuse s w body _ _ _ (omega arith) λ c.
       did-refuse s w body _ _ _ (omega arith) λ g.
-      did-need s w body _ _ _ (omega arith) λ j e.
+      did-need s w body _ _ _ (λ _. other (omega arith)) λ j e.
       did-refuse s w body _ _ _ (omega arith) λ y.
       keys j (ltb-false t (s .clock .0) c) (not-false _ g) e y
 

@@ -9,4 +9,5 @@ pub mod Said
 pub mod Exact
 pub mod Numbers
 pub mod Late
+pub mod Room
 pub mod Marked
