@@ -5,4 +5,5 @@ pub mod Exact
 pub mod Numbers
 pub mod Late
 pub mod Room
+pub mod Apart
 pub mod Marked

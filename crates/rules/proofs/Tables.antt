@@ -6,7 +6,11 @@ use mathlib.Core.Path.{_≡_, refl, sym, ap, subst, _∙_}
 use mathlib.Core.Logic.{_≢_, _⊎_, inl, inr, ⊎-elim}
 use mathlib.Core.Bool.{Bool, true, false, true≢false}
 use mathlib.Core.List.{List, [], _∷_}
+use lib.Dec.{eqb}
 use lib.ListN.{length, getD, set}
+use lib.Seq.{getD-set-same, getD-set-other}
+use borrow.Author.Tests.{eqb-true, eqb-false}
+use Rattle.flow.proofs.Choices.{split}
 use Rattle.flow.specs.Choice.{pick}
 use Rattle.flow.specs.Search.{firstFrom, first, orElse, found}
 use Rattle.flow.specs.declared.Found.{Found}
@@ -96,3 +100,10 @@ module _ {A : Type 0} (p : A → Bool) (d : A) where
 
   pub none-found : (l : List A) → ((k : ℕ) → k < length l → p (getD l k d) ≡ false) → first p l ≡ Nothing
   none-found l h = none-from 0 l h
+
+-- a row that is put inside
+pub put-inside : {A : Type 0} (d : A) (l : List A) (i : ℕ) (x : A) → i < length l → (k : ℕ)
+    → ((k ≡ i) × (getD (set l i x) k d ≡ x)) ⊎ ((k ≢ i) × (getD (set l i x) k d ≡ getD l k d))
+put-inside d l i x h k =
+    ⊎-elim (λ b. let e : k ≡ i = eqb-true k i b in inl (e, rw e (getD-set-same l i x d h)))
+    (λ b. let n : k ≢ i = eqb-false k i b in inr (n, getD-set-other l i k x d n)) (split (eqb k i))

@@ -10,4 +10,6 @@ pub mod Exact
 pub mod Numbers
 pub mod Late
 pub mod Room
+pub mod Apart
+pub mod Filed
 pub mod Marked
