@@ -247,7 +247,7 @@ module _ (s : State) (w : Policy) (body : List ℕ) (h : Sound s) (d : Different
 
 -- ---- every history
 
-pub record Kept (s : State) : Type 0 where
+pub record Steady (s : State) : Type 0 where
   pub sound : Sound s
   pub different : Different (s .clock .0) s
 
@@ -264,11 +264,11 @@ different-fresh domain restart lifetime =
 clock-fresh : (s : State) → Opened s → Different (s .clock .0) s
 clock-fresh s o = subst (λ (s : State). Different (s .clock .0) s) (opened-fresh s o) (unfold fresh in different-fresh (o .domain) (o .restart) (o .lifetime))
 
-kept-step : (s : State) (x : Input) → Kept s → Kept (next s x)
-kept-step s x h = record { sound = sound-step s x (h .sound); different = unfold next in different s (policy x) (x .body) (h .sound) (h .different) (did s x) }
+steady-step : (s : State) (x : Input) → Steady s → Steady (next s x)
+steady-step s x h = record { sound = sound-step s x (h .sound); different = unfold next in different s (policy x) (x .body) (h .sound) (h .different) (did s x) }
 
-pub kept-after : (s : State) → Opened s → (xs : List Input) → Kept (after s xs)
-kept-after s o xs = through Kept kept-step s xs (record { sound = sound-opened s o; different = clock-fresh s o })
+pub steady-after : (s : State) → Opened s → (xs : List Input) → Steady (after s xs)
+steady-after s o xs = through Steady steady-step s xs (record { sound = sound-opened s o; different = clock-fresh s o })
 
 busy-of : (t : ℕ) (r : Run) → isOpen t r ≡ true → r .challenged ≡ true → Busy t r
 unfolding isOpen
@@ -281,7 +281,7 @@ busy-of t r e c =
 pub rows-distinct : RowsAreDistinct
 rows-distinct s o xs t c =
     let u = after s xs in
-    let d = later (u .clock .0) t u c (kept-after s o xs .different) in
+    let d = later (u .clock .0) t u c (steady-after s o xs .different) in
     record {
       one-each = λ i j n p q. d .owners i j n (ltb-true t _ p) (ltb-true t _ q);
       session-rands = λ i j n p q. d .rands i j n (ltb-true t _ p) (ltb-true t _ q);

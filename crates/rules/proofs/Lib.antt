@@ -6,4 +6,6 @@ pub mod Numbers
 pub mod Late
 pub mod Room
 pub mod Apart
+pub mod Filed
+pub mod Named
 pub mod Marked
