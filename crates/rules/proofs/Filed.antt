@@ -19,6 +19,7 @@ use Rattle.flow.proofs.Choices.{split}
 use Rattle.octets.specs.Octets.{same}
 use Rattle.octets.proofs.Laws.{and-left, and-right, same-equal}
 use Rattle.names.specs.Name.{octetsOf, nameOf}
+use Rattle.names.specs.declared.Name.{Name}
 use Rattle.names.proofs.Laws.{octets-of}
 use Rattle.line.specs.Ranges.{BARE}
 use Rattle.line.specs.Text.{between}
@@ -41,16 +42,17 @@ use Rattle.shelves.specs.declared.Policy.{Policy}
 use Rattle.tables.specs.Tables.{RUNS, SESSIONS}
 use Rattle.tables.specs.State.{runAt, sessionAt, offeredAt, offeredTo, started, filled, ended, established}
 use Rattle.tables.specs.declared.State.{State}
-use Rattle.answer.specs.Answer.{Answer, Keyed, keyed}
+use Rattle.answer.specs.Answer.{Answer, Keyed, keyed, made}
 use Rattle.outcome.specs.Outcome.{Done, answered, octetsOf as answerOctets, stateOf}
 use Rattle.rules.specs.Opening.{fresh}
 use Rattle.rules.specs.Vector.{noCopy, chosen}
+use Rattle.rules.specs.Response.{expiryOf}
 use Rattle.rules.specs.Key.{isNamed, keyFor, wanted}
 use Rattle.rules.specs.History.{Input, decided, next, output, after}
 use Rattle.rules.specs.Said.{Opened, answerOf, Answers, number}
 use Rattle.rules.specs.Numbers.{given, runIn}
 use Rattle.rules.specs.Late.{timeOf, eventIn}
-use Rattle.rules.specs.Filed.{nafAsked, btidAsked, applicationAsked, policyIn, keyedFor, Brings, brings, Kept, Settled, gave, kept, Came, Filed, FiledUnderItsOwnName}
+use Rattle.rules.specs.Filed.{nafAsked, btidAsked, applicationAsked, policyIn, keyedFor, Brings, brings, Began, Kept, Settled, gave, kept, Came, Made, Filed, FiledUnderItsOwnName}
 use Rattle.rules.proofs.Tables.{passed, put-all}
 use Rattle.rules.proofs.Steps.{Open, Did, refuses, starts, vectors, rights, wrongs, aborts, keys, policy, did}
 use Rattle.rules.proofs.Sound.{after-append, opened-fresh, getD-none}
@@ -61,29 +63,42 @@ longer : (past before rest ys : List Input) (x : Input) → past ≡ before ++ (
 longer past before rest ys x e = ap (λ (l : List Input). l ++ ys) e ∙ append-assoc before (x ∷ rest) ys
 
 module _ (s : State) (past ys : List Input) where
-  kept-longer : (n : ℕ) (impi : List ℕ) (settings : Settings) → Kept s past n impi settings → Kept s (past ++ ys) n impi settings
-  kept-longer n impi settings k =
+  began-longer : (n : ℕ) (impi : List ℕ) → Began s past n impi → Began s (past ++ ys) n impi
+  began-longer n impi k =
       record {
         before = k .before; start = k .start; rest = k .rest ++ ys; split = longer past (k .before) (k .rest) ys (k .start) (k .split);
-        t = k .t; a = k .a; z = k .z; event = k .event; names = k .names; gives = k .gives; j = k .j; own = k .own; had = k .had;
+        t = k .t; a = k .a; z = k .z; event = k .event; names = k .names; gives = k .gives;
       }
 
-  came-longer : (impi rand ks : List ℕ) (settings : Settings) → Came s past impi rand ks settings → Came s (past ++ ys) impi rand ks settings
-  came-longer impi rand ks settings c =
+  kept-longer : (n : ℕ) (impi : List ℕ) (settings : Settings) → Kept s past n impi settings → Kept s (past ++ ys) n impi settings
+  unfolding began-longer
+  kept-longer n impi settings k = record { began = began-longer n impi (k .began); j = k .j; own = k .own; had = k .had }
+
+  came-longer : (n : ℕ) (impi rand ks : List ℕ) (settings : Settings) → Came s past n impi rand ks settings → Came s (past ++ ys) n impi rand ks settings
+  came-longer n impi rand ks settings c =
       record {
         before = c .before; vector = c .vector; rest = c .rest ++ ys; split = longer past (c .before) (c .rest) ys (c .vector) (c .split);
-        n = c .n; kind = c .kind; given = c .given; bringing = c .bringing; taken = c .taken; settled = c .settled;
+        kind = c .kind; given = c .given; bringing = c .bringing; taken = c .taken; began = c .began; settled = c .settled;
+      }
+
+  made-longer : (n : ℕ) (text : List ℕ) (start expiry : ℕ) → Made s past n text start expiry → Made s (past ++ ys) n text start expiry
+  made-longer n text start expiry m =
+      record {
+        before = m .before; response = m .response; rest = m .rest ++ ys; split = longer past (m .before) (m .rest) ys (m .response) (m .split);
+        restart = m .restart; a = m .a; z = m .z; event = m .event; answer = m .answer;
       }
 
 -- ---- the invariant
 
-abbrev RunOrigin : State → List Input → Run → Type 0
-RunOrigin s past r =
-    (r .challenged ≡ false → 0 < r .settings .timestamp → Kept s past (r .number) (octetsOf (r .impi)) (r .settings))
-    × (r .challenged ≡ true → Came s past (octetsOf (r .impi)) (r .rand) (r .ks) (r .settings))
+record RunOrigin (s : State) (past : List Input) (r : Run) : Type 0 where
+  began : r .number ≢ 0 → Began s past (r .number) (octetsOf (r .impi))
+  kept : r .challenged ≡ false → 0 < r .settings .timestamp → Kept s past (r .number) (octetsOf (r .impi)) (r .settings)
+  came : r .challenged ≡ true → Came s past (r .number) (octetsOf (r .impi)) (r .rand) (r .ks) (r .settings)
 
 pub record SessionOrigin (s : State) (past : List Input) (x : Session) : Type 0 where
-  pub came : Came s past (octetsOf (x .impi)) (x .rand) (x .ks) (x .settings)
+  pub n : ℕ
+  pub came : Came s past n (octetsOf (x .impi)) (x .rand) (x .ks) (x .settings)
+  pub made : Made s past n (btid (x .rand) (octetsOf (s .domain))) (x .start .0) (x .expiry .0)
   pub expires : x .expiry .0 ≡ x .start .0 + lifetimeOf (s .lifetime) (x .settings) .0
 
 abbrev pub Held : State → List Input → Session → Type 0
@@ -91,19 +106,26 @@ Held s past x = 0 < x .expiry .0 → SessionOrigin s past x
 
 record Origins (s : State) (past : List Input) (u : State) : Type 0 where
   lifetime : u .lifetime ≡ s .lifetime
+  domain : u .domain ≡ s .domain
   runs : (i : ℕ) → RunOrigin s past (runAt u i)
   sessions : (j : ℕ) → Held s past (sessionAt u j)
 
 module _ (s : State) (past ys : List Input) where
   run-longer : (r : Run) → RunOrigin s past r → RunOrigin s (past ++ ys) r
-  run-longer r o = (λ c t. kept-longer s past ys _ _ _ (o .0 c t), λ c. came-longer s past ys _ _ _ _ (o .1 c))
+  run-longer r o =
+      record {
+        began = λ z. began-longer s past ys _ _ (o .began z); kept = λ c t. kept-longer s past ys _ _ _ (o .kept c t);
+        came = λ c. came-longer s past ys _ _ _ _ _ (o .came c);
+      }
 
   session-longer : (x : Session) → Held s past x → Held s (past ++ ys) x
-  session-longer x o l = record { came = came-longer s past ys _ _ _ _ (o l .came); expires = o l .expires }
+  session-longer x o l =
+      let h = o l in
+      record { n = h .n; came = came-longer s past ys _ _ _ _ _ (h .came); made = made-longer s past ys _ _ _ _ (h .made); expires = h .expires }
 
 no-run-origin : (s : State) (past : List Input) → RunOrigin s past noRun
 unfolding noRun noSettings
-no-run-origin s past = (λ c t. absurd (omega arith), λ c. absurd (true≢false (sym c)))
+no-run-origin s past = record { began = λ z. absurd (z refl); kept = λ c t. absurd (omega arith); came = λ c. absurd (true≢false (sym c)) }
 
 no-session-held : (s : State) (past : List Input) → Held s past noSession
 unfolding noSession
@@ -153,13 +175,17 @@ copy-kept kind r h e =
 -- ---- the event x, on the state u that the history past led to
 
 module _ (s : State) (past : List Input) (x : Input) (u : State) (here : after s past ≡ u) where
-  kept-now : (t a z : ℕ) (o : Result Done) (n : ℕ) (impi : List ℕ) → eventIn x ≡ Start t a z → between (x .body) a z ≡ impi → decided u x ≡ o → given o ≡ n ∷ []
-      → Own impi t u → Kept s (past ++ (x ∷ [])) n impi (offeredTo impi t u)
-  kept-now t a z o n impi v m q g w =
+  began-now : (t a z : ℕ) (o : Result Done) (n : ℕ) → eventIn x ≡ Start t a z → decided u x ≡ o → given o ≡ n ∷ [] → Began s (past ++ (x ∷ [])) n (between (x .body) a z)
+  began-now t a z o n v q g =
       record {
-        before = past; start = x; rest = []; split = refl; t = t; a = a; z = z; event = v; names = m;
-        gives = ap (λ (y : State). given (decided y x)) here ∙ ap given q ∙ g; j = w .j; own = rw here (w .own); had = rw here (w .had);
+        before = past; start = x; rest = []; split = refl; t = t; a = a; z = z; event = v; names = refl;
+        gives = ap (λ (y : State). given (decided y x)) here ∙ ap given q ∙ g;
       }
+
+  kept-now : (t a z : ℕ) (o : Result Done) (n : ℕ) → eventIn x ≡ Start t a z → decided u x ≡ o → given o ≡ n ∷ []
+      → Own (between (x .body) a z) t u → Kept s (past ++ (x ∷ [])) n (between (x .body) a z) (offeredTo (between (x .body) a z) t u)
+  unfolding began-now
+  kept-now t a z o n v q g w = record { began = began-now t a z o n v q g; j = w .j; own = rw here (w .own); had = rw here (w .had) }
 
   settled-now : (n kind : ℕ) (given : Settings) (r : Run) → r .number ≡ n → noCopy kind r ≡ false
       → (0 < r .settings .timestamp → Kept s past (r .number) (octetsOf (r .impi)) (r .settings)) → Settled s past n (octetsOf (r .impi)) kind given (chosen kind given r)
@@ -191,47 +217,67 @@ module _ (s : State) (past : List Input) (x : Input) (u : State) (here : after s
         → RunOrigin s (past ++ (x ∷ [])) (startedRun n t (nameOf (between (x .body) a z)) (offeredTo (between (x .body) a z) t u))
     unfolding startedRun
     start-origin t a z n o v q g =
-        ( (λ c l. subst (λ (impi : List ℕ). Kept s (past ++ (x ∷ [])) n impi (offeredTo (between (x .body) a z) t u)) (sym (start-fits (x .body) t a z v))
-            (kept-now t a z o n (between (x .body) a z) v refl q g (offered-own (between (x .body) a z) t u l)))
-        , λ c. absurd (true≢false (sym c)) )
+        let e = sym (start-fits (x .body) t a z v) in
+        record {
+          began = λ _. subst (Began s (past ++ (x ∷ [])) n) e (began-now t a z o n v q g);
+          kept = λ c l. subst (λ (impi : List ℕ). Kept s (past ++ (x ∷ [])) n impi (offeredTo (between (x .body) a z) t u)) e
+            (kept-now t a z o n v q g (offered-own (between (x .body) a z) t u l));
+          came = λ c. absurd (true≢false (sym c));
+        }
 
     vector-origin : (t restart n a z rand autn xres xend ck ik kind lifetime timestamp count entries : ℕ) (o : Result Done) (i : ℕ)
         → eventIn x ≡ Vector t restart n a z rand autn xres xend ck ik kind lifetime timestamp count entries → decided u x ≡ o → replyOf (mapR answerOctets o) .no ≡ 0
-        → runAt u i .number ≡ n → runAt u i .challenged ≡ false → octetsOf (runAt u i .impi) ≡ between (x .body) a z → noCopy kind (runAt u i) ≡ false → (l : List ℕ) (m : ℕ)
+        → n ≢ 0 → runAt u i .number ≡ n → runAt u i .challenged ≡ false → octetsOf (runAt u i .impi) ≡ between (x .body) a z → noCopy kind (runAt u i) ≡ false → (l : List ℕ) (m : ℕ)
         → RunOrigin s (past ++ (x ∷ [])) (filledRun (runAt u i) (between (x .body) rand (rand + BARE)) l m (ksOf (x .body) ck ik) (chosen kind (settingsOf (x .body) lifetime timestamp count entries) (runAt u i)))
     unfolding filledRun
-    vector-origin t restart n a z rand autn xres xend ck ik kind lifetime timestamp count entries o i v q y e c m k l w =
+    vector-origin t restart n a z rand autn xres xend ck ik kind lifetime timestamp count entries o i v q y g e c m k l w =
         let settings = settingsOf (x .body) lifetime timestamp count entries in
-        ( (λ d. absurd (true≢false d))
-        , λ d. record {
-          before = past; vector = x; rest = []; split = refl; n = n; kind = kind; given = settings;
-          bringing = subst (λ (impi : List ℕ). Brings x n impi (between (x .body) rand (rand + BARE)) (ksOf (x .body) ck ik) kind settings) (sym m)
-            (brings t restart n a z rand autn xres xend ck ik kind lifetime timestamp count entries v);
-          taken = taken-now o q y; settled = settled-now n kind settings (runAt u i) e k (h .runs i .0 c);
-        } )
+        let r = runAt u i in
+        record {
+          began = λ z. began-longer s past (x ∷ []) _ _ (h .runs i .began z);
+          kept = λ d. absurd (true≢false d);
+          came = λ d. record {
+            before = past; vector = x; rest = []; split = refl; kind = kind; given = settings;
+            bringing = subst (λ (n : ℕ). Brings x n (octetsOf (r .impi)) (between (x .body) rand (rand + BARE)) (ksOf (x .body) ck ik) kind settings) (sym e)
+              (subst (λ (impi : List ℕ). Brings x n impi (between (x .body) rand (rand + BARE)) (ksOf (x .body) ck ik) kind settings) (sym m)
+              (brings t restart n a z rand autn xres xend ck ik kind lifetime timestamp count entries v));
+            taken = taken-now o q y; began = h .runs i .began (λ z. g (sym e ∙ z));
+            settled = settled-now (r .number) kind settings r refl k (h .runs i .kept c);
+          };
+        }
+
+    made-now : (t restart n a z i : ℕ) (text : List ℕ) (expiry : ℕ) (o : Result Done) → eventIn x ≡ Response t restart n a z → decided u x ≡ o → mapR answerOf o ≡ ok (made text t expiry)
+        → runAt u i .number ≡ n → Made s (past ++ (x ∷ [])) (runAt u i .number) text t expiry
+    made-now t restart n a z i text expiry o v q g e =
+        record {
+          before = past; response = x; rest = []; split = refl; restart = restart; a = a; z = z;
+          event = v ∙ ap (λ (m : ℕ). Response t restart m a z) (sym e);
+          answer = ap (λ (y : State). mapR answerOf (decided y x)) here ∙ ap (mapR answerOf) q ∙ g;
+        }
 
     origins : {e : Event} {o : Result Done} → eventIn x ≡ e → decided u x ≡ o → Did u (policy x) (x .body) e o → Origins s (past ++ (x ∷ [])) (stateOf u o)
-    unfolding stateOf answered started filled ended established startedRun sessionOf quintetOf given runIn replyOf mapR
-    origins v q (refuses m) = record { lifetime = h .lifetime; runs = rows-same; sessions = sessions-same }
+    unfolding stateOf answered started filled ended established startedRun sessionOf quintetOf given runIn replyOf mapR answerOf
+    origins v q (refuses m) = record { lifetime = h .lifetime; domain = h .domain; runs = rows-same; sessions = sessions-same }
     origins v q (starts {t = t} {a = a} {z = z} i c l f) =
-        record { lifetime = h .lifetime; runs = rows-put i _ (start-origin t a z _ _ v q refl); sessions = sessions-same }
+        record { lifetime = h .lifetime; domain = h .domain; runs = rows-put i _ (start-origin t a z _ _ v q refl); sessions = sessions-same }
     origins v q (vectors i o c m y d) =
         record {
-          lifetime = h .lifetime; sessions = sessions-same;
-          runs = rows-put i _ (vector-origin _ _ _ _ _ _ _ _ _ _ _ _ _ _ _ _ _ i v q refl (o .number) c m y _ _);
+          lifetime = h .lifetime; domain = h .domain; sessions = sessions-same;
+          runs = rows-put i _ (vector-origin _ _ _ _ _ _ _ _ _ _ _ _ _ _ _ _ _ i v q refl (o .given) (o .number) c m y _ _);
         }
-    origins v q (rights {t = t} i j o c r p) =
+    origins v q (rights {t = t} {restart = restart} {n = n} {a = a} {z = z} i j o c r p) =
         record {
-          lifetime = h .lifetime; runs = rows-none i;
+          lifetime = h .lifetime; domain = h .domain; runs = rows-none i;
           sessions = put-all noSession (Held s (past ++ (x ∷ []))) (u .sessions .rows) j _
             (λ l. record {
-              came = came-longer s past (x ∷ []) _ _ _ _ (h .runs i .1 c);
+              n = runAt u i .number; came = came-longer s past (x ∷ []) _ _ _ _ _ (h .runs i .came c);
+              made = made-now t restart n a z i _ _ _ v q (ap (λ (d : Name). ok (made (btid (runAt u i .rand) (octetsOf d)) t (expiryOf u t (runAt u i) .0))) (h .domain)) (o .number);
               expires = ap (λ (y : Lifetime). t + lifetimeOf y (runAt u i .settings) .0) (h .lifetime);
             }) sessions-same;
         }
-    origins v q (wrongs i o c r) = record { lifetime = h .lifetime; runs = rows-none i; sessions = sessions-same }
-    origins v q (aborts i o) = record { lifetime = h .lifetime; runs = rows-none i; sessions = sessions-same }
-    origins v q (keys j c f g y) = record { lifetime = h .lifetime; runs = rows-same; sessions = sessions-same }
+    origins v q (wrongs i o c r) = record { lifetime = h .lifetime; domain = h .domain; runs = rows-none i; sessions = sessions-same }
+    origins v q (aborts i o) = record { lifetime = h .lifetime; domain = h .domain; runs = rows-none i; sessions = sessions-same }
+    origins v q (keys j c f g y) = record { lifetime = h .lifetime; domain = h .domain; runs = rows-same; sessions = sessions-same }
 
 -- ---- every history
 
@@ -249,7 +295,7 @@ origins-fresh : (domain : List ℕ) (restart lifetime : ℕ) → Origins (fresh 
 unfolding fresh
 origins-fresh domain restart lifetime =
     record {
-      lifetime = refl;
+      lifetime = refl; domain = refl;
       runs = λ i. subst (RunOrigin _ []) (sym (getD-none RUNS i noRun)) (no-run-origin _ []);
       sessions = λ j. subst (Held _ []) (sym (getD-none SESSIONS j noSession)) (no-session-held _ []);
     }
@@ -307,4 +353,4 @@ pub filed : FiledUnderItsOwnName
 filed s o xs x a q =
     let w = about (after s xs) x a refl q (did (after s xs) x) in
     let g = session-origin s o xs (w .row) _ (w .live) in
-    record { row = w .row; answer = w .answer; live = w .live; named = w .named; came = g .came; expires = g .expires }
+    record { row = w .row; answer = w .answer; live = w .live; named = w .named; n = g .n; came = g .came; made = g .made; expires = g .expires }

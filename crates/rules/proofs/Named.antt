@@ -48,14 +48,14 @@ brought-rand {x} o (brings t restart n a z rand autn xres xend ck ik kind lifeti
     let r = subst (InRange (x .body)) v (in-range (x .body)) in
     record { octets = octets-take (rand + BARE - rand) (drop rand (x .body)) (octets-drop rand (x .body) o); long = bare-length BARE rand (x .body) (r .quintet .rand-inside) }
 
-came-rand : (s : State) (xs : List Input) (impi rand ks : List ℕ) (settings : Settings) → AllOctets xs → Came s xs impi rand ks settings → Rand rand
-came-rand s xs impi rand ks settings o c = brought-rand (o (c .vector) (record { before = c .before; rest = c .rest; split = c .split })) (c .bringing)
+came-rand : (s : State) (xs : List Input) (n : ℕ) (impi rand ks : List ℕ) (settings : Settings) → AllOctets xs → Came s xs n impi rand ks settings → Rand rand
+came-rand s xs n impi rand ks settings o c = brought-rand (o (c .vector) (record { before = c .before; rest = c .rest; split = c .split })) (c .bringing)
 
 pub btids-distinct : BtidsAreDistinct
 btids-distinct s o xs a t c i j p q e =
     let u = after s xs in
-    let r = came-rand s xs _ _ _ _ a (session-origin s o xs i t p .came) in
-    let w = came-rand s xs _ _ _ _ a (session-origin s o xs j t q .came) in
+    let r = came-rand s xs _ _ _ _ _ a (session-origin s o xs i t p .came) in
+    let w = came-rand s xs _ _ _ _ _ a (session-origin s o xs j t q .came) in
     ⊎-elim (λ b. eqb-true i j b)
     (λ b. absurd
       (rows-distinct s o xs t c .session-rands i j (eqb-false i j b) p q

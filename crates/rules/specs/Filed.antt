@@ -20,7 +20,7 @@ use Rattle.shelves.specs.Shelf.{policyFor}
 use Rattle.shelves.specs.declared.Policy.{Policy}
 use Rattle.tables.specs.State.{sessionAt}
 use Rattle.tables.specs.declared.State.{State}
-use Rattle.answer.specs.Answer.{Keyed, keyed}
+use Rattle.answer.specs.Answer.{Keyed, keyed, made}
 use Rattle.rules.specs.Key.{keyFor, wanted}
 use Rattle.rules.specs.Server.{askedOf}
 use Rattle.rules.specs.History.{Input, decided, after}
@@ -75,8 +75,8 @@ pub data Brings (x : Input) : ℕ → List ℕ → List ℕ → List ℕ → ℕ
       → eventIn x ≡ Vector t restart n a z rand autn xres xend ck ik kind lifetime timestamp count entries
       → Brings x n (between (x .body) a z) (between (x .body) rand (rand + BARE)) (ksOf (x .body) ck ik) kind (settingsOf (x .body) lifetime timestamp count entries)
 
--- in the history `past` of the opening s a START of that IMPI got the number n, and the IMPI's own live session then had these settings
-pub record Kept (s : State) (past : List Input) (n : ℕ) (impi : List ℕ) (settings : Settings) : Type 0 where
+-- in the history `past` of the opening s a START of that IMPI was answered with the number n
+pub record Began (s : State) (past : List Input) (n : ℕ) (impi : List ℕ) : Type 0 where
   pub before : List Input
   pub start : Input
   pub rest : List Input
@@ -87,27 +87,43 @@ pub record Kept (s : State) (past : List Input) (n : ℕ) (impi : List ℕ) (set
   pub event : eventIn start ≡ Start t a z
   pub names : between (start .body) a z ≡ impi
   pub gives : given (decided (after s before) start) ≡ n ∷ []
+
+-- and the IMPI's own live session had these settings then
+pub record Kept (s : State) (past : List Input) (n : ℕ) (impi : List ℕ) (settings : Settings) : Type 0 where
+  pub began : Began s past n impi
   pub j : ℕ
-  pub own : isOwn impi t (sessionAt (after s before) j) ≡ true
-  pub had : sessionAt (after s before) j .settings ≡ settings
+  pub own : isOwn impi (began .t) (sessionAt (after s (began .before)) j) ≡ true
+  pub had : sessionAt (after s (began .before)) j .settings ≡ settings
 
 -- the settings of a session: those that its VECTOR gave, or, "as before", those kept when its run started
 pub data Settled (s : State) (past : List Input) (n : ℕ) (impi : List ℕ) (kind : ℕ) (given : Settings) : Settings → Type 0 where
   gave : kind ≢ BEFORE → Settled s past n impi kind given given
   kept : {settings : Settings} → kind ≡ BEFORE → Kept s past n impi settings → Settled s past n impi kind given settings
 
--- in that history an answered VECTOR for a run of that IMPI brought RAND, Ks and the settings
-pub record Came (s : State) (past : List Input) (impi rand ks : List ℕ) (settings : Settings) : Type 0 where
+-- in that history an answered VECTOR, for the run n that a START of this very IMPI began, brought RAND, Ks and the settings
+pub record Came (s : State) (past : List Input) (n : ℕ) (impi rand ks : List ℕ) (settings : Settings) : Type 0 where
   pub before : List Input
   pub vector : Input
   pub rest : List Input
   pub split : past ≡ before ++ (vector ∷ rest)
-  pub n : ℕ
   pub kind : ℕ
   pub given : Settings
   pub bringing : Brings vector n impi rand ks kind given
   pub taken : number (after s before) vector ≡ 0
+  pub began : Began s before n impi
   pub settled : Settled s before n impi kind given settings
+
+-- and a RESPONSE to the run n, at time start, was answered with this B-TID, start and expiry
+pub record Made (s : State) (past : List Input) (n : ℕ) (text : List ℕ) (start expiry : ℕ) : Type 0 where
+  pub before : List Input
+  pub response : Input
+  pub rest : List Input
+  pub split : past ≡ before ++ (response ∷ rest)
+  pub restart : ℕ
+  pub a : ℕ
+  pub z : ℕ
+  pub event : eventIn response ≡ Response start restart n a z
+  pub answer : Answers (after s before) response (made text start expiry)
 
 -- ---- the promise
 
@@ -118,8 +134,11 @@ pub record Filed (s : State) (xs : List Input) (x : Input) (a : Keyed) : Type 0 
   pub answer : a ≡ keyedFor (after s xs) x row
   pub live : isLive (timeOf (eventIn x)) (sessionAt (after s xs) row) ≡ true
   pub named : btid (sessionAt (after s xs) row .rand) (octetsOf (after s xs .domain)) ≡ btidAsked (x .body) (eventIn x)
-  -- and all that is that session's was brought for its own IMPI
-  pub came : Came s xs (octetsOf (sessionAt (after s xs) row .impi)) (sessionAt (after s xs) row .rand) (sessionAt (after s xs) row .ks) (sessionAt (after s xs) row .settings)
+  -- all that is that session's was brought for its own IMPI, to the run n
+  pub n : ℕ
+  pub came : Came s xs n (octetsOf (sessionAt (after s xs) row .impi)) (sessionAt (after s xs) row .rand) (sessionAt (after s xs) row .ks) (sessionAt (after s xs) row .settings)
+  -- the right RES to that run made it
+  pub made : Made s xs n (btid (sessionAt (after s xs) row .rand) (octetsOf (s .domain))) (sessionAt (after s xs) row .start .0) (sessionAt (after s xs) row .expiry .0)
   -- its expiry is its start plus the settings' lifetime, or the default
   pub expires : sessionAt (after s xs) row .expiry .0 ≡ sessionAt (after s xs) row .start .0 + lifetimeOf (s .lifetime) (sessionAt (after s xs) row .settings) .0
 
