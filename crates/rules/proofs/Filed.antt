@@ -316,7 +316,7 @@ pub record About (u : State) (x : Input) (a : Keyed) : Type 0 where
   pub live : isLive (timeOf (eventIn x)) (sessionAt u row) ≡ true
   pub named : btid (sessionAt u row .rand) (octetsOf (u .domain)) ≡ btidAsked (x .body) (eventIn x)
 
-keyed-as : (u : State) (body : List ℕ) (w : Policy) (j t p pz b bz f fz application : ℕ) (e : Event) → e ≡ Key t p pz b bz f fz application
+pub keyed-as : (u : State) (body : List ℕ) (w : Policy) (j t p pz b bz f fz application : ℕ) (e : Event) → e ≡ Key t p pz b bz f fz application
     → _≡_ {A = Keyed}
       (record {
         subject = sessionAt u j .impi; key = keyFor (between body f fz) (sessionAt u j); start = sessionAt u j .start .0; expiry = sessionAt u j .expiry .0;
@@ -329,11 +329,11 @@ keyed-as : (u : State) (body : List ℕ) (w : Policy) (j t p pz b bz f fz applic
 unfolding nafAsked applicationAsked
 keyed-as u body w j t p pz b bz f fz application e v = rw v
 
-is-named : (text domain : List ℕ) (t : ℕ) (x : Session) → isNamed text domain t x ≡ true → (isLive t x ≡ true) × (btid (x .rand) domain ≡ text)
+pub is-named : (text domain : List ℕ) (t : ℕ) (x : Session) → isNamed text domain t x ≡ true → (isLive t x ≡ true) × (btid (x .rand) domain ≡ text)
 unfolding isNamed
 is-named text domain t x h = (and-left (isLive t x) _ h, same-equal _ _ (and-right (isLive t x) (same (btid (x .rand) domain) text) h))
 
-about : (u : State) (x : Input) (a : Keyed) {e : Event} {o : Result Done} → eventIn x ≡ e → mapR answerOf o ≡ ok (keyed a) → Did u (policy x) (x .body) e o → About u x a
+pub about : (u : State) (x : Input) (a : Keyed) {e : Event} {o : Result Done} → eventIn x ≡ e → mapR answerOf o ≡ ok (keyed a) → Did u (policy x) (x .body) e o → About u x a
 unfolding answered mapR answerOf
 about u x a v q (refuses m) = let z : _≡_ {A = ℕ} 0 1 = cc in absurd (omega arith)
 about u x a v q (starts i c l f) = let z : _≡_ {A = ℕ} 0 1 = cc in absurd (omega arith)

@@ -8,4 +8,6 @@ pub mod Room
 pub mod Apart
 pub mod Filed
 pub mod Named
+pub mod Keys
+pub mod Live
 pub mod Marked

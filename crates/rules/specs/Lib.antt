@@ -12,4 +12,6 @@ pub mod Late
 pub mod Room
 pub mod Apart
 pub mod Filed
+pub mod Live
+pub mod Keys
 pub mod Marked
