@@ -10,4 +10,6 @@ pub mod Filed
 pub mod Named
 pub mod Keys
 pub mod Live
+pub mod Demands
 pub mod Marked
+pub mod Examples

@@ -14,4 +14,6 @@ pub mod Apart
 pub mod Filed
 pub mod Live
 pub mod Keys
+pub mod Demand1
+pub mod Demand2
 pub mod Marked

@@ -1,0 +1,150 @@
+-- The promises over histories are about something: for each a closed history, computed by the checker, meets what it asks for.
+use Prim.Native.Nat.{ℕ, zero, suc, _<_}
+use native.Mathlib.Omega.{arith}
+use native.Mathlib.Bridge.{le-by-compare, IsLe}
+use mathlib.Core.Path.{_≡_, refl, sym, ap, subst, _∙_}
+use mathlib.Core.Logic.{_≢_}
+use mathlib.Core.Bool.{Bool, true, _&&_}
+use mathlib.Core.List.{List, [], _∷_, _++_, map}
+use lib.Dec.{ltb}
+use lib.ListN.{getD, replicate}
+use borrow.Author.Tests.{ltb-true}
+use Rattle.flow.specs.Choice.{pick}
+use Rattle.flow.specs.Front.{front, _▹_}
+use Rattle.flow.specs.Reply.{replyOf, bufferOf}
+use Rattle.flow.specs.Result.{_>>=_, _>>_, refuse, need, mapR}
+use Rattle.flow.specs.Search.{firstFrom, orElse, found}
+use Rattle.names.specs.Name.{octetsOf as nameOctets, isHost}
+use Rattle.line.specs.Number.{encodeIn, withNum, groupsAt}
+use Rattle.line.specs.Text.{withSpan}
+use Rattle.settings.specs.Layout.{withEntry, absentAt, entriesAt, settingsAt, withSettings}
+use Rattle.event.specs.Layout.{withNamed, withQuintet, eventOf as decoded}
+use Rattle.records.specs.Settings.{noSettings, isEntry, offers}
+use Rattle.records.specs.Rows.{noRun, startedRun, filledRun, isOpen, isRun, isOther, isRight, noSession, sessionOf, isOwn, hasRand}
+use Rattle.brought.specs.Brought.{quintetOf, entryOf, withFields, entriesFrom, entriesOf, settingsOf}
+use Rattle.tables.specs.Tables.{placeFor}
+use Rattle.tables.specs.State.{offeredAt, offeredTo, randSeen, started, filled, ended, established}
+use Rattle.base64.specs.Base64.{base64}
+use Rattle.base64.specs.Btid.{btid}
+use Rattle.shelves.specs.Shelf.{part, isRow, policyAt, policyOf}
+use Rattle.answer.specs.Answer.{encodeOf, identityOf, wantedOf}
+use Rattle.outcome.specs.Outcome.{answered, octetsOf, stateOf}
+use Rattle.rules.specs.Start.{opens, startRule}
+use Rattle.rules.specs.Vector.{noCopy, chosen, challenges, fills, vectorRule}
+use Rattle.rules.specs.Response.{makes, fails, concludes, responseRule, rightAt, abortRule}
+use Rattle.rules.specs.Key.{isNamed, entryAt, entryFor, isAbsent, wanted, lacks, grants, keyRule, keyFor}
+use Rattle.rules.specs.Server.{rule, stepOf, askedIn}
+use Rattle.octets.specs.Octets.{same, padded}
+use Rattle.octets.proofs.Laws.{and-left, and-right}
+use Rattle.line.specs.Number.{Octets}
+use Rattle.answer.specs.Answer.{Keyed, keyed, present}
+use Rattle.rules.specs.Opening.{fresh, openRule}
+use Rattle.rules.specs.History.{eventOf, Input, decided, next, output, after, outputs}
+use Rattle.rules.specs.Said.{Opened, answerOf, Answers, Within, number}
+use Rattle.rules.specs.Numbers.{runIn, given, numbers}
+use Rattle.rules.specs.Late.{timeOf, runNamed, runEnded, eventIn, Late, Lapses, Untouched}
+use Rattle.rules.specs.Apart.{AllOctets}
+use Rattle.rules.specs.Filed.{nafAsked, btidAsked, applicationAsked, keyedFor, Filed}
+use Rattle.rules.specs.Live.{Asks}
+use Rattle.rules.specs.Marked.{DOMAIN, ALICE, CAROL, RAND, BTID, XRES, startBody, vectorBody, responseBody, abortBody, keyBody, opening, input, run, numbersOf, NONE, AT98, AT99, AT100, AT129, AT130}
+use Rattle.event.specs.declared.Event.the-variants.{Abort}
+use Rattle.rules.proofs.Late.{incident, ended-stays, lapsed-stays}
+use Rattle.rules.proofs.Room.{room-comes-back}
+use Rattle.rules.proofs.Filed.{filed}
+use Rattle.rules.proofs.Live.{while-live}
+
+opens-so : Opened opening
+unfolding openRule refuse _>>_
+opens-so = record { domain = DOMAIN; restart = 7; lifetime = 3600; opens = refl }
+
+-- ---- the histories
+
+-- a@b signs in and gives up, c@d signs in, the reply for a@b comes late
+abbrev late-past : List Input
+late-past = input (startBody AT98 ALICE) ∷ []
+
+abbrev late-abort : Input
+late-abort = input (abortBody AT99 1)
+
+abbrev late-start : Input
+late-start = input (startBody AT99 CAROL)
+
+abbrev late-reply : Input
+late-reply = input (vectorBody AT100 1 ALICE RAND NONE)
+
+-- a run of 98, and its ABORT at 129
+abbrev lapse-start : Input
+lapse-start = input (startBody AT98 ALICE)
+
+abbrev lapse-abort : Input
+lapse-abort = input (abortBody AT129 1)
+
+-- 32 runs of 100, and one more at 100 and at 130
+abbrev room-past : List Input
+room-past = replicate 32 (input (startBody AT100 ALICE))
+
+abbrev room-more : Input
+room-more = input (startBody AT100 ALICE)
+
+abbrev room-later : Input
+room-later = input (startBody AT130 ALICE)
+
+-- a@b's session has settings with a timestamp and one entry: application 1, group 0, flags 1 2 3 4, user name u; its next VECTOR says "as before"
+abbrev GIVEN : List ℕ
+GIVEN = 2 ∷ 0 ∷ 5 ∷ 1 ∷ 1 ∷ 0 ∷ 1 ∷ 2 ∷ 3 ∷ 4 ∷ 1 ∷ 0x75 ∷ []
+
+abbrev OTHER : List ℕ
+OTHER = replicate 16 0
+
+abbrev filed-past : List Input
+filed-past =
+    input (startBody AT98 ALICE) ∷ input (vectorBody AT98 1 ALICE RAND GIVEN) ∷ input (responseBody AT98 1 5 XRES)
+    ∷ input (startBody AT99 ALICE) ∷ input (vectorBody AT99 2 ALICE OTHER (1 ∷ [])) ∷ input (responseBody AT100 2 5 XRES) ∷ []
+
+abbrev filed-key : Input
+filed-key = input (keyBody AT129 (btid OTHER DOMAIN) 1)
+
+-- ---- what the checker computes of them
+
+record Computed : Type 0 where
+  late-names : eventIn late-abort ≡ Abort 99 7 1
+  late-numbers : numbersOf (outputs opening (late-past ++ (late-abort ∷ late-start ∷ late-reply ∷ []))) ≡ 0 ∷ 0 ∷ 0 ∷ 7 ∷ []
+  late-ended : number (after opening late-past) late-abort ≡ 0
+  late-given : given (decided (next (after opening late-past) late-abort) late-start) ≡ 2 ∷ []
+  late-named : runNamed (eventIn late-reply) ≡ 1
+  lapse-given : given (decided opening lapse-start) ≡ 1 ∷ []
+  lapse-named : runNamed (eventIn lapse-abort) ≡ 1
+  lapse-times : (timeOf (eventIn lapse-start) ≡ 98) × (timeOf (eventIn lapse-abort) ≡ 129)
+  room-numbers : numbersOf (outputs opening (room-past ++ (room-more ∷ room-later ∷ []))) ≡ replicate 32 0 ++ (6 ∷ 0 ∷ [])
+  room-full : number (after opening room-past) room-more ≡ 6
+  room-times : (timeOf (eventIn room-more) ≡ 100) × (timeOf (eventIn room-later) ≡ 130)
+  filed-numbers : numbersOf (outputs opening (filed-past ++ (filed-key ∷ []))) ≡ replicate 7 0
+  filed-answer : Answers (after opening filed-past) filed-key (keyed (keyedFor (after opening filed-past) filed-key 0))
+  filed-entry : keyedFor (after opening filed-past) filed-key 0 .wanted ≡
+      present (record { application = 1; group = 0; flags = 1 ∷ 2 ∷ 3 ∷ 4 ∷ []; user = 0x75 ∷ replicate 31 0; len = 1 })
+
+computed : Computed
+unfolding pick front _▹_ replyOf bufferOf _>>=_ _>>_ refuse need mapR firstFrom orElse found same padded nameOctets encodeIn withNum groupsAt withSpan withEntry absentAt entriesAt settingsAt withSettings withNamed withQuintet decoded noRun startedRun filledRun isOpen isRun isOther isRight noSession sessionOf isOwn hasRand noSettings isEntry offers quintetOf entryOf withFields entriesFrom entriesOf settingsOf offeredAt offeredTo randSeen started filled ended established placeFor base64 btid part isRow isHost policyAt policyOf encodeOf identityOf wantedOf answered octetsOf stateOf fresh isNamed entryAt entryFor isAbsent wanted lacks grants keyRule keyFor noCopy chosen challenges fills vectorRule opens startRule makes fails concludes responseRule rightAt abortRule rule stepOf askedIn eventOf next output outputs numbersOf after answerOf runIn given runNamed timeOf nafAsked btidAsked applicationAsked
+computed = record {
+  late-names = refl; late-numbers = refl; late-ended = refl; late-given = refl; late-named = refl; lapse-given = refl; lapse-named = refl;
+  lapse-times = (refl, refl); room-numbers = refl; room-full = refl; room-times = (refl, refl); filed-numbers = refl; filed-answer = refl; filed-entry = refl;
+}
+
+-- ---- so each promise is met
+
+pub late-example : Untouched (next (next (after opening late-past) late-abort) late-start) 1 2 late-reply
+late-example =
+    incident opening opens-so late-past late-abort late-start late-reply 99 7 1 2 (computed .late-names) (computed .late-ended) (computed .late-given) (computed .late-named)
+
+pub lapse-example : Late (after (next (after opening []) lapse-start) []) lapse-abort
+lapse-example =
+    lapsed-stays opening opens-so [] lapse-start 1 (unfold after in computed .lapse-given) [] lapse-abort (computed .lapse-named) .by-event
+    (omega (arith, computed .lapse-times .0, computed .lapse-times .1))
+
+pub room-example : number (after (next (after opening room-past) room-more) []) room-later ≢ 6
+room-example =
+    room-comes-back opening opens-so room-past room-more (computed .room-full) [] (unfold numbers in refl) room-later
+    (omega (arith, computed .room-times .0, computed .room-times .1))
+
+pub filed-example : Filed opening filed-past filed-key (keyedFor (after opening filed-past) filed-key 0)
+filed-example = filed opening opens-so filed-past filed-key _ (computed .filed-answer)
