@@ -4,7 +4,7 @@ use native.Mathlib.Omega.{arith}
 use native.Mathlib.Bridge.{le-by-compare, IsLe}
 use mathlib.Core.Path.{_≡_, refl, sym, ap, subst, _∙_}
 use mathlib.Core.Logic.{_≢_}
-use mathlib.Core.Bool.{Bool, true, _&&_}
+use mathlib.Core.Bool.{Bool, true, false, _&&_}
 use mathlib.Core.List.{List, [], _∷_, _++_, map}
 use lib.Dec.{ltb}
 use lib.ListN.{getD, replicate}
@@ -20,10 +20,10 @@ use Rattle.line.specs.Text.{withSpan}
 use Rattle.settings.specs.Layout.{withEntry, absentAt, entriesAt, settingsAt, withSettings}
 use Rattle.event.specs.Layout.{withNamed, withQuintet, eventOf as decoded}
 use Rattle.records.specs.Settings.{noSettings, isEntry, offers}
-use Rattle.records.specs.Rows.{noRun, startedRun, filledRun, isOpen, isRun, isOther, isRight, noSession, sessionOf, isOwn, hasRand}
+use Rattle.records.specs.Rows.{noRun, startedRun, filledRun, isOpen, isRun, isOther, isRight, noSession, sessionOf, isOwn, hasRand, isLive}
 use Rattle.brought.specs.Brought.{quintetOf, entryOf, withFields, entriesFrom, entriesOf, settingsOf}
 use Rattle.tables.specs.Tables.{placeFor}
-use Rattle.tables.specs.State.{offeredAt, offeredTo, randSeen, started, filled, ended, established}
+use Rattle.tables.specs.State.{sessionAt, offeredAt, offeredTo, randSeen, started, filled, ended, established}
 use Rattle.base64.specs.Base64.{base64}
 use Rattle.base64.specs.Btid.{btid}
 use Rattle.shelves.specs.Shelf.{part, isRow, policyAt, policyOf}
@@ -43,13 +43,14 @@ use Rattle.rules.specs.History.{eventOf, Input, decided, next, output, a
 use Rattle.rules.specs.Said.{Opened, answerOf, Answers, Within, number}
 use Rattle.rules.specs.Numbers.{runIn, given, numbers}
 use Rattle.rules.specs.Late.{timeOf, runNamed, runEnded, eventIn, Late, Lapses, Untouched}
+use Rattle.rules.specs.Room.{SessionsFull}
 use Rattle.rules.specs.Apart.{AllOctets}
-use Rattle.rules.specs.Filed.{nafAsked, btidAsked, applicationAsked, keyedFor, Filed}
+use Rattle.rules.specs.Filed.{nafAsked, btidAsked, applicationAsked, policyIn, keyedFor, Filed}
 use Rattle.rules.specs.Live.{Asks}
 use Rattle.rules.specs.Marked.{DOMAIN, ALICE, CAROL, RAND, BTID, XRES, startBody, vectorBody, responseBody, abortBody, keyBody, opening, input, run, numbersOf, NONE, AT98, AT99, AT100, AT129, AT130}
-use Rattle.event.specs.declared.Event.the-variants.{Abort}
+use Rattle.event.specs.declared.Event.the-variants.{Abort, Key}
 use Rattle.rules.proofs.Late.{incident, ended-stays, lapsed-stays}
-use Rattle.rules.proofs.Room.{room-comes-back}
+use Rattle.rules.proofs.Room.{room-comes-back, no-session-only}
 use Rattle.rules.proofs.Filed.{filed}
 use Rattle.rules.proofs.Live.{while-live}
 
@@ -104,6 +105,48 @@ filed-past =
 abbrev filed-key : Input
 filed-key = input (keyBody AT129 (btid OTHER DOMAIN) 1)
 
+-- 65 students, each with IMPI and RAND of its own: 64 have sessions, and the last one's RES is right too
+abbrev studentBody : ℕ → List ℕ
+studentBody n = n ∷ 0x40 ∷ 0x62 ∷ []
+
+abbrev signIn : ℕ → List Input
+signIn n =
+    input (startBody AT100 (studentBody n)) ∷ input (vectorBody AT100 n (studentBody n) (n ∷ replicate 15 0) NONE) ∷ input (responseBody AT100 n 5 XRES) ∷ []
+
+unfoldable pub crowd : ℕ → List Input
+crowd zero = []
+crowd (suc n) = crowd n ++ signIn (suc n)
+
+abbrev full-past : List Input
+full-past = crowd 64 ++ (input (startBody AT100 (studentBody 65)) ∷ input (vectorBody AT100 65 (studentBody 65) (65 ∷ replicate 15 0) NONE) ∷ [])
+
+abbrev full-response : Input
+full-response = input (responseBody AT100 65 5 XRES)
+
+-- every octet of a list is below 256
+unfoldable below : List ℕ → Bool
+below [] = true
+below (x ∷ s) = ltb x 256 && below s
+
+octets-below : (s : List ℕ) → below s ≡ true → Octets s
+unfolding below
+octets-below [] h i = omega arith
+octets-below (x ∷ s) h zero = ltb-true x 256 (and-left (ltb x 256) (below s) h)
+octets-below (x ∷ s) h (suc i) = octets-below s (and-right (ltb x 256) (below s) h) i
+
+unfoldable all-below : List Input → Bool
+all-below [] = true
+all-below (x ∷ xs) = below (x .body) && all-below xs
+
+all-octets : (xs : List Input) → all-below xs ≡ true → (x : Input) (before rest : List Input) → xs ≡ before ++ (x ∷ rest) → Octets (x .body)
+unfolding all-below
+all-octets [] h x [] rest e = let z : _≡_ {A = ℕ} 0 1 = cc in absurd (omega arith)
+all-octets [] h x (y ∷ before) rest e = let z : _≡_ {A = ℕ} 0 1 = cc in absurd (omega arith)
+all-octets (y ∷ xs) h x [] rest e =
+    let q : y ≡ x = cc in
+    subst (λ (x : Input). Octets (x .body)) q (octets-below (y .body) (and-left (below (y .body)) (all-below xs) h))
+all-octets (y ∷ xs) h x (w ∷ before) rest e = all-octets xs (and-right (below (y .body)) (all-below xs) h) x before rest (cc)
+
 -- ---- what the checker computes of them
 
 record Computed : Type 0 where
@@ -117,17 +160,26 @@ record Computed : Type 0 where
   lapse-times : (timeOf (eventIn lapse-start) ≡ 98) × (timeOf (eventIn lapse-abort) ≡ 129)
   room-numbers : numbersOf (outputs opening (room-past ++ (room-more ∷ room-later ∷ []))) ≡ replicate 32 0 ++ (6 ∷ 0 ∷ [])
   room-full : number (after opening room-past) room-more ≡ 6
+  full-number : number (after opening full-past) full-response ≡ 13
   room-times : (timeOf (eventIn room-more) ≡ 100) × (timeOf (eventIn room-later) ≡ 130)
+  live-octets : all-below filed-past ≡ true
+  live-event : eventIn filed-key ≡ Key 129 4 5 6 42 43 51 1
+  live-clock : after opening filed-past .clock .0 ≡ 100
+  live-shelf : policyIn filed-key .found ≡ true
+  live-session : isLive 129 (sessionAt (after opening filed-past) 0) ≡ true
+  live-named : btid (sessionAt (after opening filed-past) 0 .rand) (nameOctets (after opening filed-past .domain)) ≡ btidAsked (filed-key .body) (eventIn filed-key)
+  live-allowed : lacks (policyIn filed-key) (sessionAt (after opening filed-past) 0 .settings) ≡ false
   filed-numbers : numbersOf (outputs opening (filed-past ++ (filed-key ∷ []))) ≡ replicate 7 0
   filed-answer : Answers (after opening filed-past) filed-key (keyed (keyedFor (after opening filed-past) filed-key 0))
   filed-entry : keyedFor (after opening filed-past) filed-key 0 .wanted ≡
       present (record { application = 1; group = 0; flags = 1 ∷ 2 ∷ 3 ∷ 4 ∷ []; user = 0x75 ∷ replicate 31 0; len = 1 })
 
 computed : Computed
-unfolding pick front _▹_ replyOf bufferOf _>>=_ _>>_ refuse need mapR firstFrom orElse found same padded nameOctets encodeIn withNum groupsAt withSpan withEntry absentAt entriesAt settingsAt withSettings withNamed withQuintet decoded noRun startedRun filledRun isOpen isRun isOther isRight noSession sessionOf isOwn hasRand noSettings isEntry offers quintetOf entryOf withFields entriesFrom entriesOf settingsOf offeredAt offeredTo randSeen started filled ended established placeFor base64 btid part isRow isHost policyAt policyOf encodeOf identityOf wantedOf answered octetsOf stateOf fresh isNamed entryAt entryFor isAbsent wanted lacks grants keyRule keyFor noCopy chosen challenges fills vectorRule opens startRule makes fails concludes responseRule rightAt abortRule rule stepOf askedIn eventOf next output outputs numbersOf after answerOf runIn given runNamed timeOf nafAsked btidAsked applicationAsked
+unfolding pick front _▹_ replyOf bufferOf _>>=_ _>>_ refuse need mapR firstFrom orElse found same padded nameOctets encodeIn withNum groupsAt withSpan withEntry absentAt entriesAt settingsAt withSettings withNamed withQuintet decoded noRun startedRun filledRun isOpen isRun isOther isRight noSession sessionOf isOwn hasRand noSettings isEntry offers quintetOf entryOf withFields entriesFrom entriesOf settingsOf offeredAt offeredTo randSeen started filled ended established placeFor base64 btid part isRow isHost policyAt policyOf encodeOf identityOf wantedOf answered octetsOf stateOf fresh isNamed entryAt entryFor isAbsent wanted lacks grants keyRule keyFor noCopy chosen challenges fills vectorRule opens startRule makes fails concludes responseRule rightAt abortRule rule stepOf askedIn eventOf next output outputs numbersOf after answerOf runIn given runNamed timeOf nafAsked btidAsked applicationAsked crowd below all-below
 computed = record {
   late-names = refl; late-numbers = refl; late-ended = refl; late-given = refl; late-named = refl; lapse-given = refl; lapse-named = refl;
-  lapse-times = (refl, refl); room-numbers = refl; room-full = refl; room-times = (refl, refl); filed-numbers = refl; filed-answer = refl; filed-entry = refl;
+  lapse-times = (refl, refl); room-numbers = refl; room-full = refl; full-number = refl; room-times = (refl, refl); live-octets = refl; live-event = refl; live-clock = refl; live-shelf = refl;
+  live-session = refl; live-named = refl; live-allowed = refl; filed-numbers = refl; filed-answer = refl; filed-entry = refl;
 }
 
 -- ---- so each promise is met
@@ -146,5 +198,18 @@ room-example =
     room-comes-back opening opens-so room-past room-more (computed .room-full) [] (unfold numbers in refl) room-later
     (omega (arith, computed .room-times .0, computed .room-times .1))
 
+pub full-example : SessionsFull (after opening full-past) full-response
+full-example = no-session-only opening opens-so full-past full-response (computed .full-number)
+
 pub filed-example : Filed opening filed-past filed-key (keyedFor (after opening filed-past) filed-key 0)
 filed-example = filed opening opens-so filed-past filed-key _ (computed .filed-answer)
+
+live-asks : Asks (after opening filed-past) filed-key 0
+live-asks = record {
+  t = 129; p = 4; pz = 5; b = 6; bz = 42; f = 43; fz = 51; application = 1; event = computed .live-event; room = omega arith;
+  clock = omega (arith, computed .live-clock); shelf = computed .live-shelf; live = computed .live-session; named = computed .live-named; allowed = computed .live-allowed;
+}
+
+pub live-example : Answers (after opening filed-past) filed-key (keyed (keyedFor (after opening filed-past) filed-key 0))
+live-example =
+    while-live opening opens-so filed-past (λ x w. all-octets filed-past (computed .live-octets) x (w .before) (w .rest) (w .split)) filed-key 0 live-asks
