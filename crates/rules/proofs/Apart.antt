@@ -28,6 +28,8 @@ use Rattle.tables.specs.State.{runAt, sessionAt, randSeen, started, filled, end
 use Rattle.tables.specs.declared.State.{State}
 use Rattle.outcome.specs.Outcome.{Done, answered, stateOf}
 use Rattle.rules.specs.Opening.{fresh}
+use Rattle.rules.specs.Start.{opens}
+use Rattle.rules.specs.Vector.{challenges}
 use Rattle.rules.specs.History.{Input, next, after}
 use Rattle.rules.specs.Said.{Opened}
 use Rattle.rules.specs.Apart.{Distinct, RowsAreDistinct}
@@ -231,9 +233,9 @@ busy-open s t restart n i o c = record { some = λ z. o .given (sym (o .number) 
 module _ (s : State) (w : Policy) (body : List ℕ) (h : Sound s) (d : Different (s .clock .0) s) where
   different : {e : Event} {o : Result Done} → Did s w body e o → Different (stateOf s o .clock .0) (stateOf s o)
   different (refuses m) = unfold stateOf in d
-  different (starts {t = t} i c l f) = unfold stateOf answered started startedRun in different-started t s (later _ t s c d) i _ refl
+  different (starts {t = t} i c l f) = unfold stateOf answered opens challenges started startedRun in different-started t s (later _ t s c d) i _ refl
   different (vectors {t = t} {n = n} i o c m y z) =
-      unfold stateOf answered filled in
+      unfold stateOf answered opens challenges filled in
       different-filled t s (later _ t s (o .clock) d) i _
       (λ k q b. unfold filledRun in new-run s n _ t z k (λ e. b .some (h .apart k i q (e ∙ sym (o .number)))) b)
       (unfold filledRun in new-session s n _ t z)

@@ -73,12 +73,12 @@ late-start = input (startBody AT99 CAROL)
 abbrev late-reply : Input
 late-reply = input (vectorBody AT100 1 ALICE RAND NONE)
 
--- a run of 98, and its ABORT at 129
+-- a run of 99, and its VECTOR 30 seconds later
 abbrev lapse-start : Input
-lapse-start = input (startBody AT98 ALICE)
+lapse-start = input (startBody AT99 ALICE)
 
-abbrev lapse-abort : Input
-lapse-abort = input (abortBody AT129 1)
+abbrev lapse-reply : Input
+lapse-reply = input (vectorBody AT129 1 ALICE RAND NONE)
 
 -- 32 runs of 100, and one more at 100 and at 130
 abbrev room-past : List Input
@@ -123,6 +123,10 @@ full-past = crowd 64 ++ (input (startBody AT100 (studentBody 65)) ∷ input (vec
 abbrev full-response : Input
 full-response = input (responseBody AT100 65 5 XRES)
 
+-- and, with 64 live, the first student once more: the session is replaced
+abbrev own-past : List Input
+own-past = crowd 64 ++ (input (startBody AT100 (studentBody 1)) ∷ input (vectorBody AT100 65 (studentBody 1) (65 ∷ replicate 15 0) NONE) ∷ [])
+
 -- every octet of a list is below 256
 unfoldable below : List ℕ → Bool
 below [] = true
@@ -156,11 +160,13 @@ record Computed : Type 0 where
   late-given : given (decided (next (after opening late-past) late-abort) late-start) ≡ 2 ∷ []
   late-named : runNamed (eventIn late-reply) ≡ 1
   lapse-given : given (decided opening lapse-start) ≡ 1 ∷ []
-  lapse-named : runNamed (eventIn lapse-abort) ≡ 1
-  lapse-times : (timeOf (eventIn lapse-start) ≡ 98) × (timeOf (eventIn lapse-abort) ≡ 129)
+  lapse-numbers : numbersOf (outputs opening (lapse-start ∷ lapse-reply ∷ [])) ≡ 0 ∷ 7 ∷ []
+  lapse-named : runNamed (eventIn lapse-reply) ≡ 1
+  lapse-times : (timeOf (eventIn lapse-start) ≡ 99) × (timeOf (eventIn lapse-reply) ≡ 129)
   room-numbers : numbersOf (outputs opening (room-past ++ (room-more ∷ room-later ∷ []))) ≡ replicate 32 0 ++ (6 ∷ 0 ∷ [])
   room-full : number (after opening room-past) room-more ≡ 6
   full-number : number (after opening full-past) full-response ≡ 13
+  own-number : number (after opening own-past) full-response ≡ 0
   room-times : (timeOf (eventIn room-more) ≡ 100) × (timeOf (eventIn room-later) ≡ 130)
   live-octets : all-below filed-past ≡ true
   live-event : eventIn filed-key ≡ Key 129 4 5 6 42 43 51 1
@@ -177,8 +183,8 @@ record Computed : Type 0 where
 computed : Computed
 unfolding pick front _▹_ replyOf bufferOf _>>=_ _>>_ refuse need mapR firstFrom orElse found same padded nameOctets encodeIn withNum groupsAt withSpan withEntry absentAt entriesAt settingsAt withSettings withNamed withQuintet decoded noRun startedRun filledRun isOpen isRun isOther isRight noSession sessionOf isOwn hasRand noSettings isEntry offers quintetOf entryOf withFields entriesFrom entriesOf settingsOf offeredAt offeredTo randSeen started filled ended established placeFor base64 btid part isRow isHost policyAt policyOf encodeOf identityOf wantedOf answered octetsOf stateOf fresh isNamed entryAt entryFor isAbsent wanted lacks grants keyRule keyFor noCopy chosen challenges fills vectorRule opens startRule makes fails concludes responseRule rightAt abortRule rule stepOf askedIn eventOf next output outputs numbersOf after answerOf runIn given runNamed timeOf nafAsked btidAsked applicationAsked crowd below all-below
 computed = record {
-  late-names = refl; late-numbers = refl; late-ended = refl; late-given = refl; late-named = refl; lapse-given = refl; lapse-named = refl;
-  lapse-times = (refl, refl); room-numbers = refl; room-full = refl; full-number = refl; room-times = (refl, refl); live-octets = refl; live-event = refl; live-clock = refl; live-shelf = refl;
+  late-names = refl; late-numbers = refl; late-ended = refl; late-given = refl; late-named = refl; lapse-given = refl; lapse-numbers = refl; lapse-named = refl;
+  lapse-times = (refl, refl); room-numbers = refl; room-full = refl; full-number = refl; own-number = refl; room-times = (refl, refl); live-octets = refl; live-event = refl; live-clock = refl; live-shelf = refl;
   live-session = refl; live-named = refl; live-allowed = refl; filed-numbers = refl; filed-answer = refl; filed-entry = refl;
 }
 
@@ -188,9 +194,9 @@ pub late-example : Untouched (next (next (after opening late-past) late-abort) l
 late-example =
     incident opening opens-so late-past late-abort late-start late-reply 99 7 1 2 (computed .late-names) (computed .late-ended) (computed .late-given) (computed .late-named)
 
-pub lapse-example : Late (after (next (after opening []) lapse-start) []) lapse-abort
+pub lapse-example : Late (after (next (after opening []) lapse-start) []) lapse-reply
 lapse-example =
-    lapsed-stays opening opens-so [] lapse-start 1 (unfold after in computed .lapse-given) [] lapse-abort (computed .lapse-named) .by-event
+    lapsed-stays opening opens-so [] lapse-start 1 (unfold after in computed .lapse-given) [] lapse-reply (computed .lapse-named) .by-event
     (omega (arith, computed .lapse-times .0, computed .lapse-times .1))
 
 pub room-example : number (after (next (after opening room-past) room-more) []) room-later ≢ 6

@@ -45,7 +45,8 @@ use Rattle.tables.specs.declared.State.{State}
 use Rattle.answer.specs.Answer.{Answer, Keyed, keyed, made}
 use Rattle.outcome.specs.Outcome.{Done, answered, octetsOf as answerOctets, stateOf}
 use Rattle.rules.specs.Opening.{fresh}
-use Rattle.rules.specs.Vector.{noCopy, chosen}
+use Rattle.rules.specs.Start.{opens}
+use Rattle.rules.specs.Vector.{noCopy, chosen, challenges}
 use Rattle.rules.specs.Response.{expiryOf}
 use Rattle.rules.specs.Key.{isNamed, keyFor, wanted}
 use Rattle.rules.specs.History.{Input, decided, next, output, after}
@@ -256,7 +257,7 @@ module _ (s : State) (past : List Input) (x : Input) (u : State) (here : after s
         }
 
     origins : {e : Event} {o : Result Done} → eventIn x ≡ e → decided u x ≡ o → Did u (policy x) (x .body) e o → Origins s (past ++ (x ∷ [])) (stateOf u o)
-    unfolding stateOf answered started filled ended established startedRun sessionOf quintetOf given runIn replyOf mapR answerOf
+    unfolding stateOf answered opens challenges started filled ended established startedRun sessionOf quintetOf given runIn replyOf mapR answerOf
     origins v q (refuses m) = record { lifetime = h .lifetime; domain = h .domain; runs = rows-same; sessions = sessions-same }
     origins v q (starts {t = t} {a = a} {z = z} i c l f) =
         record { lifetime = h .lifetime; domain = h .domain; runs = rows-put i _ (start-origin t a z _ _ v q refl); sessions = sessions-same }
@@ -334,7 +335,7 @@ unfolding isNamed
 is-named text domain t x h = (and-left (isLive t x) _ h, same-equal _ _ (and-right (isLive t x) (same (btid (x .rand) domain) text) h))
 
 pub about : (u : State) (x : Input) (a : Keyed) {e : Event} {o : Result Done} → eventIn x ≡ e → mapR answerOf o ≡ ok (keyed a) → Did u (policy x) (x .body) e o → About u x a
-unfolding answered mapR answerOf
+unfolding answered opens challenges mapR answerOf
 about u x a v q (refuses m) = let z : _≡_ {A = ℕ} 0 1 = cc in absurd (omega arith)
 about u x a v q (starts i c l f) = let z : _≡_ {A = ℕ} 0 1 = cc in absurd (omega arith)
 about u x a v q (vectors i o c m y d) = let z : _≡_ {A = ℕ} 0 1 = cc in absurd (omega arith)

@@ -29,7 +29,8 @@ use Rattle.tables.specs.State.{runAt, started, filled, ended, established}
 use Rattle.tables.specs.declared.State.{State}
 use Rattle.answer.specs.Answer.{ROOM}
 use Rattle.outcome.specs.Outcome.{Done, answered, octetsOf, stateOf}
-use Rattle.rules.specs.Vector.{vectorRule}
+use Rattle.rules.specs.Start.{opens}
+use Rattle.rules.specs.Vector.{vectorRule, challenges}
 use Rattle.rules.specs.Response.{responseRule, abortRule}
 use Rattle.rules.specs.Server.{rule, stepOf}
 use Rattle.rules.specs.History.{eventOf, Input, decided, next, output, after}
@@ -57,7 +58,7 @@ module _ (P : ℕ → Type 0) (n : ℕ) (s : State) (h : Only P n s) where
   only-none i = only-row i noRun (λ e. absurd (h .some (sym e ∙ (unfold noRun in refl))))
 
   only : (w : Policy) (body : List ℕ) {e : Event} {o : Result Done} → Did s w body e o → Only P n (stateOf s o)
-  unfolding stateOf answered started filled ended established startedRun filledRun
+  unfolding stateOf answered opens challenges started filled ended established startedRun filledRun
   only w body (refuses m) = h
   only w body (starts {t = t} i c l f) =
       record { some = h .some; known = omega (arith, h .known); rows = only-row i _ (λ (e : s .last + 1 ≡ n). absurd (omega (arith, h .known))) }
@@ -146,7 +147,7 @@ module _ (s : State) (w : Policy) (body : List ℕ) (h : Sound s) where
       record { some = o .given; known = omega (arith, h .given i, o .number); rows = gone-row s i n h (o .given) (o .inside) (o .number) }
 
   ends : {e : Event} {o : Result Done} (n : ℕ) → n ≢ 0 → runEnded e ≡ n → replyOf (mapR octetsOf o) .no ≡ 0 → Did s w body e o → Only Gone n (stateOf s o)
-  unfolding stateOf answered runEnded replyOf mapR
+  unfolding stateOf answered opens challenges runEnded replyOf mapR
   ends n z e q (refuses m) = absurd (nonzero m q)
   ends n z e q (starts i c l f) = absurd (z (sym e))
   ends n z e q (vectors i o c m y d) = absurd (z (sym e))
@@ -170,7 +171,7 @@ From t start = start ≡ t
 module _ (s : State) (w : Policy) (body : List ℕ) (h : Sound s) where
   -- the run given starts at the event's time, and no other row has its number
   given-now : {e : Event} {o : Result Done} (n : ℕ) → given o ≡ n ∷ [] → Did s w body e o → Only (From (timeOf e)) n (stateOf s o)
-  unfolding stateOf answered given runIn started startedRun timeOf
+  unfolding stateOf answered opens challenges given runIn started startedRun timeOf
   given-now n q (refuses m) = let z : _≡_ {A = ℕ} 0 1 = cc in absurd (omega arith)
   given-now n q (starts {t = t} i c l f) =
       let k : s .last + 1 ≡ n = cc in

@@ -30,6 +30,8 @@ use Rattle.tables.specs.State.{runAt, sessionAt, started, filled, ended, establ
 use Rattle.tables.specs.declared.State.{State}
 use Rattle.answer.specs.Answer.{Answer, Keyed, keyed, made}
 use Rattle.outcome.specs.Outcome.{Done, answered, stateOf}
+use Rattle.rules.specs.Start.{opens}
+use Rattle.rules.specs.Vector.{challenges}
 use Rattle.rules.specs.Response.{expiryOf}
 use Rattle.rules.specs.Key.{isNamed, wanted, lacks, grants, keyRule, keyFor}
 use Rattle.rules.specs.Server.{rule}
@@ -134,7 +136,7 @@ put-over s impi t j k x e (free i l q) h =
 
 module _ (s : State) (w : Policy) (body : List ℕ) (j : ℕ) where
   stands-row : {e : Event} {o : Result Done} → Did s w body e o → isLive (stateOf s o .clock .0) (sessionAt s j) ≡ true → (sessionAt (stateOf s o) j ≡ sessionAt s j) ⊎ Over s o j
-  unfolding stateOf answered started filled ended established mapR answerOf
+  unfolding stateOf answered opens challenges started filled ended established mapR answerOf
   stands-row (refuses m) l = inl refl
   stands-row (starts i c m f) l = inl refl
   stands-row (vectors i o c m y d) l = inl refl
@@ -159,7 +161,7 @@ place-inside (free i l e) = i
 
 made-row : (s : State) (w : Policy) (body : List ℕ) (text : List ℕ) (start expiry : ℕ) {e : Event} {o : Result Done} → mapR answerOf o ≡ ok (made text start expiry)
     → Did s w body e o → Stands (stateOf s o) text start expiry
-unfolding stateOf answered established mapR answerOf sessionOf
+unfolding stateOf answered opens challenges established mapR answerOf sessionOf
 made-row s w body text start expiry q (refuses m) = let z : _≡_ {A = ℕ} 0 1 = cc in absurd (omega arith)
 made-row s w body text start expiry q (starts i c m f) = let z : _≡_ {A = ℕ} 0 1 = cc in absurd (omega arith)
 made-row s w body text start expiry q (vectors i o c m y d) = let z : _≡_ {A = ℕ} 0 1 = cc in absurd (omega arith)

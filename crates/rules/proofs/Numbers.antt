@@ -19,6 +19,8 @@ use Rattle.tables.specs.declared.State.{State}
 use Rattle.answer.specs.Answer.{Answer}
 use Rattle.outcome.specs.Outcome.{Done, answered, octetsOf, stateOf}
 use Rattle.rules.specs.Opening.{fresh}
+use Rattle.rules.specs.Start.{opens}
+use Rattle.rules.specs.Vector.{challenges}
 use Rattle.rules.specs.History.{Input, decided, next, output, after}
 use Rattle.rules.specs.Said.{Opened, number}
 use Rattle.rules.specs.Numbers.{runIn, given, numbers, upFrom, Counted, RunsAreNumbered}
@@ -35,7 +37,7 @@ pub record Gives (s : State) (o : Result Done) : Type 0 where
 
 module _ (s : State) (w : Policy) (body : List ℕ) where
   pub gives : {e : Event} {o : Result Done} → Did s w body e o → Quiet s o ⊎ Gives s o
-  unfolding given runIn stateOf answered started startedRun filled ended established
+  unfolding given runIn stateOf answered opens challenges started startedRun filled ended established
   gives (refuses n) = inl (record { none = refl; last = refl })
   gives (starts i c l f) = inr (record { one = refl; last = refl })
   gives (vectors i o c m y d) = inl (record { none = refl; last = refl })
@@ -46,7 +48,7 @@ module _ (s : State) (w : Policy) (body : List ℕ) where
 
   -- an answered START gives one
   pub start-gives : {t a z : ℕ} {e : Event} {o : Result Done} → e ≡ Start t a z → Did s w body e o → replyOf (mapR octetsOf o) .no ≡ 0 → given o ≡ (s .last + 1) ∷ []
-  unfolding given runIn answered mapR replyOf
+  unfolding given runIn answered opens challenges mapR replyOf
   start-gives q (refuses n) h = absurd (nonzero n h)
   start-gives q (starts i c l f) h = refl
   start-gives q (vectors i o c m y d) h = let z : _≡_ {A = ℕ} 0 1 = cc in absurd (omega arith)

@@ -32,6 +32,7 @@ use Rattle.answer.specs.Answer.{ROOM}
 use Rattle.outcome.specs.Outcome.{Done, answered, octetsOf as answerOctets, stateOf}
 use Rattle.outcome.proofs.Laws.{passes-below}
 use Rattle.rules.specs.Start.{LAST, opens, startRule}
+use Rattle.rules.specs.Vector.{challenges}
 use Rattle.rules.specs.Server.{rule, stepOf}
 use Rattle.rules.specs.History.{eventOf, Input, decided, next, output, after}
 use Rattle.rules.specs.Said.{Opened, number}
@@ -45,7 +46,7 @@ use Rattle.rules.proofs.Sound.{refused-out, in-front, Sound, sound-step
 -- ---- why an event is refused
 
 why : {s : State} {w : Policy} {body : List ℕ} {e : Event} {o : Result Done} (n : ℕ) → n ≢ 0 → o ≡ refused n → Did s w body e o → Why s e n
-unfolding answered
+unfolding answered opens challenges
 why n z q (refuses {n = m} h) = let k : m ≡ n = cc in rw k at h
 why n z q (starts i c l f) = let z : _≡_ {A = ℕ} 0 1 = cc in absurd (omega arith)
 why n z q (vectors i o c m y d) = let z : _≡_ {A = ℕ} 0 1 = cc in absurd (omega arith)
@@ -104,7 +105,7 @@ module _ (t : ℕ) (s : State) (h : Old t s) where
   old-none i = old-row i noRun (unfold noRun in omega arith)
 
   waits : (w : Policy) (body : List ℕ) {e : Event} {o : Result Done} → given o ≡ [] → Did s w body e o → Old t (stateOf s o)
-  unfolding stateOf answered given runIn started filled ended established filledRun
+  unfolding stateOf answered opens challenges given runIn started filled ended established filledRun
   waits w body z (refuses m) = h
   waits w body z (starts i c l f) = let z : _≡_ {A = ℕ} 0 1 = cc in absurd (omega arith)
   waits w body z (vectors i o c m y d) = old-row i _ (h i)

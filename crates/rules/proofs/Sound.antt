@@ -26,6 +26,8 @@ use Rattle.tables.specs.declared.State.{State}
 use Rattle.answer.specs.Answer.{ROOM, Answer}
 use Rattle.outcome.specs.Outcome.{Done, answered, octetsOf, stateOf}
 use Rattle.rules.specs.Opening.{fresh, openRule}
+use Rattle.rules.specs.Start.{opens}
+use Rattle.rules.specs.Vector.{challenges}
 use Rattle.rules.specs.Server.{rule, stepOf}
 use Rattle.rules.specs.History.{eventOf, Input, decided, next, output, after}
 use Rattle.rules.specs.Said.{Opened, answerOf, Answers, number}
@@ -131,7 +133,7 @@ module _ (s : State) (t i : ℕ) (h : Sound s) where
 
 module _ (s : State) (w : Policy) (body : List ℕ) where
   pub sound : {e : Event} {o : Result Done} → Sound s → Did s w body e o → Sound (stateOf s o)
-  unfolding stateOf answered started filled ended established startedRun
+  unfolding stateOf answered opens challenges started filled ended established startedRun
   sound h (refuses n) = h
   sound h (starts {t = t} i c l f) = sound-put s t i h _ _ (s .sessions) c (omega arith) (h .sessions-long) (fits-started s t i h _ _ c)
   sound h (vectors {t = t} i o c m y d) =

@@ -68,16 +68,12 @@ pub data Did (s : State) (w : Policy) (body : List ℕ) : Event → Result Done 
   refuses : {e : Event} {n : ℕ} → Why s e n → Did s w body e (refused n)
   starts : {t a z : ℕ} (i : ℕ) → s .clock .0 ≤ t → s .last < LAST → first (isFree t) (s .runs .rows) ≡ At i
       → Did s w body (Start t a z)
-        (answered (opened (s .restart) (s .last + 1) (offeredTo (between body a z) t s .timestamp))
-        (started s t i (startedRun (s .last + 1) t (nameOf (between body a z)) (offeredTo (between body a z) t s))))
+        (opens s t i (between body a z) (offeredTo (between body a z) t s))
   vectors : {t restart n a z rand autn x xz ck ik kind lifetime timestamp count entries : ℕ} (i : ℕ) → Open s t restart n i
       → runAt s i .challenged ≡ false → octetsOf (runAt s i .impi) ≡ between body a z → noCopy kind (runAt s i) ≡ false
       → randSeen n (quintetOf body rand autn x xz ck ik .rand) t s ≡ false
       → Did s w body (Vector t restart n a z rand autn x xz ck ik kind lifetime timestamp count entries)
-        (answered (challenge (quintetOf body rand autn x xz ck ik .rand) (quintetOf body rand autn x xz ck ik .autn))
-        (filled s t i
-        (filledRun (runAt s i) (quintetOf body rand autn x xz ck ik .rand) (quintetOf body rand autn x xz ck ik .xres) (quintetOf body rand autn x xz ck ik .xlen)
-        (quintetOf body rand autn x xz ck ik .ks) (chosen kind (settingsOf body lifetime timestamp count entries) (runAt s i)))))
+        (challenges s t i (quintetOf body rand autn x xz ck ik) (chosen kind (settingsOf body lifetime timestamp count entries) (runAt s i)) (runAt s i))
   rights : {t restart n a z : ℕ} (i j : ℕ) → Open s t restart n i → runAt s i .challenged ≡ true → rightFor s t n (between body a z) ≡ true
       → placeFor (octetsOf (runAt s i .impi)) t (s .sessions .rows) ≡ At j
       → Did s w body (Response t restart n a z)
@@ -142,7 +138,7 @@ module _ (s : State) (w : Policy) (body : List ℕ) where
   did-concludes t restart n a z i false r o = did-refuse s w body _ _ _ (omega arith) λ c. wrongs i o (not-false _ c) r
 
   pub did-rule : (e : Event) → Did s w body e (rule s w body e)
-  unfolding rule startRule opens vectorRule fills challenges responseRule abortRule keyRule grants
+  unfolding rule startRule vectorRule fills responseRule abortRule keyRule grants
   did-rule Bad = refuses (other {n = 3} (omega arith))
   did-rule (Start t a z) =
       did-refuse s w body _ _ _ (omega arith) λ c.
