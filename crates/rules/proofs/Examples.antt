@@ -127,6 +127,13 @@ full-response = input (responseBody AT100 65 5 XRES)
 abbrev own-past : List Input
 own-past = crowd 64 ++ (input (startBody AT100 (studentBody 1)) ∷ input (vectorBody AT100 65 (studentBody 1) (65 ∷ replicate 15 0) NONE) ∷ [])
 
+-- a VECTOR that names c@d for the run of a@b, and one with the RAND of another run
+abbrev other-student : List (List ℕ)
+other-student = startBody AT98 ALICE ∷ vectorBody AT99 1 CAROL RAND NONE ∷ []
+
+abbrev other-rand : List (List ℕ)
+other-rand = startBody AT98 ALICE ∷ startBody AT98 CAROL ∷ vectorBody AT99 1 ALICE RAND NONE ∷ vectorBody AT99 2 CAROL RAND NONE ∷ []
+
 -- every octet of a list is below 256
 unfoldable below : List ℕ → Bool
 below [] = true
@@ -168,6 +175,8 @@ record Computed : Type 0 where
   full-number : number (after opening full-past) full-response ≡ 13
   own-number : number (after opening own-past) full-response ≡ 0
   room-times : (timeOf (eventIn room-more) ≡ 100) × (timeOf (eventIn room-later) ≡ 130)
+  student-numbers : numbersOf (run other-student) ≡ 0 ∷ 9 ∷ []
+  rand-numbers : numbersOf (run other-rand) ≡ 0 ∷ 0 ∷ 0 ∷ 11 ∷ []
   live-octets : all-below filed-past ≡ true
   live-event : eventIn filed-key ≡ Key 129 4 5 6 42 43 51 1
   live-clock : after opening filed-past .clock .0 ≡ 100
@@ -184,7 +193,7 @@ computed : Computed
 unfolding pick front _▹_ replyOf bufferOf _>>=_ _>>_ refuse need mapR firstFrom orElse found same padded nameOctets encodeIn withNum groupsAt withSpan withEntry absentAt entriesAt settingsAt withSettings withNamed withQuintet decoded noRun startedRun filledRun isOpen isRun isOther isRight noSession sessionOf isOwn hasRand noSettings isEntry offers quintetOf entryOf withFields entriesFrom entriesOf settingsOf offeredAt offeredTo randSeen started filled ended established placeFor base64 btid part isRow isHost policyAt policyOf encodeOf identityOf wantedOf answered octetsOf stateOf fresh isNamed entryAt entryFor isAbsent wanted lacks grants keyRule keyFor noCopy chosen challenges fills vectorRule opens startRule makes fails concludes responseRule rightAt abortRule rule stepOf askedIn eventOf next output outputs numbersOf after answerOf runIn given runNamed timeOf nafAsked btidAsked applicationAsked crowd below all-below
 computed = record {
   late-names = refl; late-numbers = refl; late-ended = refl; late-given = refl; late-named = refl; lapse-given = refl; lapse-numbers = refl; lapse-named = refl;
-  lapse-times = (refl, refl); room-numbers = refl; room-full = refl; full-number = refl; own-number = refl; room-times = (refl, refl); live-octets = refl; live-event = refl; live-clock = refl; live-shelf = refl;
+  lapse-times = (refl, refl); room-numbers = refl; room-full = refl; full-number = refl; own-number = refl; room-times = (refl, refl); student-numbers = refl; rand-numbers = refl; live-octets = refl; live-event = refl; live-clock = refl; live-shelf = refl;
   live-session = refl; live-named = refl; live-allowed = refl; filed-numbers = refl; filed-answer = refl; filed-entry = refl;
 }
 
