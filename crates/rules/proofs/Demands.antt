@@ -5,6 +5,7 @@ use Rattle.flow.proofs.Replies.{determined as reply-determined, silent as reply
 use Rattle.rules.specs.Demand1.{RepliesAreDetermined, RepliesAreSilent, Demand1}
 use Rattle.rules.specs.Demand2.{Demand2}
 use Rattle.rules.proofs.Exact.{silent, determined, agrees}
+use Rattle.rules.proofs.Sent.{sends, five-answers-key}
 use Rattle.rules.proofs.Numbers.{numbered}
 use Rattle.rules.proofs.Late.{ended-stays, lapsed-stays, incident}
 use Rattle.rules.proofs.Room.{room-comes-back, no-run-only, no-session-only, never-worn}
@@ -26,12 +27,12 @@ replies-silent o old r new m h =
 
 pub demand-1 : Demand1
 demand-1 = record {
-  events-agree = agrees; events-determined = determined; events-silent = silent; replies-determined = replies-determined; replies-silent = replies-silent;
+  events-agree = agrees; events-determined = determined; events-silent = silent; events-sent = sends; replies-determined = replies-determined; replies-silent = replies-silent;
 }
 
 pub demand-2 : Demand2
 demand-2 = record {
   numbered = numbered; ended = ended-stays; lapsed = lapsed-stays; incident = incident; rows-distinct = rows-distinct; btids-distinct = btids-distinct;
-  filed = filed; keys = keys-of-vector; strings-distinct = strings-distinct; room = room-comes-back; no-run = no-run-only; no-session = no-session-only;
+  five = five-answers-key; filed = filed; keys = keys-of-vector; strings-distinct = strings-distinct; room = room-comes-back; no-run = no-run-only; no-session = no-session-only;
   never-worn = never-worn; only-while-live = only-while-live; while-live = while-live; stand = sessions-stand; answered-stand = answered-stand;
 }

@@ -2,6 +2,7 @@ pub mod Tables
 pub mod Steps
 pub mod Sound
 pub mod Exact
+pub mod Sent
 pub mod Numbers
 pub mod Late
 pub mod Room

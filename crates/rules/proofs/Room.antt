@@ -40,23 +40,13 @@ use Rattle.rules.specs.Numbers.{given, runIn, numbers}
 use Rattle.rules.specs.Late.{timeOf, eventIn}
 use Rattle.rules.specs.Room.{RoomComesBack, RunsFull, NoRunOnlyWhenFull, SessionsFull, NoSessionOnlyWhenFull, NoHistoryWearsOut}
 use Rattle.rules.proofs.Tables.{missed, put-all}
-use Rattle.rules.proofs.Steps.{Open, Why, other, no-run, no-session, Did, refuses, starts, vectors, rights, wrongs, aborts, keys, policy, did}
+use Rattle.rules.proofs.Steps.{Open, Why, why, other, no-run, no-session, Did, refuses, starts, vectors, rights, wrongs, aborts, keys, policy, did}
 use Rattle.rules.proofs.Sound.{refused-out, in-front, Sound, sound-step, sound-opened, sound-after}
 
 -- ---- why an event is refused
 
-why : {s : State} {w : Policy} {body : List ℕ} {e : Event} {o : Result Done} (n : ℕ) → n ≢ 0 → o ≡ refused n → Did s w body e o → Why s e n
-unfolding answered opens challenges
-why n z q (refuses {n = m} h) = let k : m ≡ n = cc in rw k at h
-why n z q (starts i c l f) = let z : _≡_ {A = ℕ} 0 1 = cc in absurd (omega arith)
-why n z q (vectors i o c m y d) = let z : _≡_ {A = ℕ} 0 1 = cc in absurd (omega arith)
-why n z q (rights i j o c r p) = let z : _≡_ {A = ℕ} 0 1 = cc in absurd (omega arith)
-why n z q (wrongs i o c r) = let z : _≡_ {A = ℕ} 0 1 = cc in absurd (omega arith)
-why n z q (aborts i o) = let z : _≡_ {A = ℕ} 0 1 = cc in absurd (omega arith)
-why n z q (keys j c f g y) = let z : _≡_ {A = ℕ} 0 1 = cc in absurd (omega arith)
-
 pub why-refused : (s : State) (x : Input) (n : ℕ) → n ≢ 0 → number s x ≡ n → Why s (eventIn x) n
-why-refused s x n z q = why n z (refused-out s x n q z) (did s x)
+why-refused s x n z q = why (refused-out s x n q z) (did s x)
 
 -- ---- 6
 

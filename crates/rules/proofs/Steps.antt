@@ -173,3 +173,14 @@ did s x =
     did-refuse s (policy x) (x .body) _ _ _ (omega arith) λ _.
     did-refuse s (policy x) (x .body) _ _ _ (omega arith) λ _.
     did-rule s (policy x) (x .body) (decoded (x .body))
+
+-- a refusal has its reason
+pub why : {s : State} {w : Policy} {body : List ℕ} {e : Event} {o : Result Done} {n : ℕ} → o ≡ refused n → Did s w body e o → Why s e n
+unfolding answered opens challenges
+why {n = n} q (refuses {n = m} h) = let k : m ≡ n = cc in rw k at h
+why q (starts i c l f) = let z : _≡_ {A = ℕ} 0 1 = cc in absurd (omega arith)
+why q (vectors i o c m y d) = let z : _≡_ {A = ℕ} 0 1 = cc in absurd (omega arith)
+why q (rights i j o c r p) = let z : _≡_ {A = ℕ} 0 1 = cc in absurd (omega arith)
+why q (wrongs i o c r) = let z : _≡_ {A = ℕ} 0 1 = cc in absurd (omega arith)
+why q (aborts i o) = let z : _≡_ {A = ℕ} 0 1 = cc in absurd (omega arith)
+why q (keys j c f g y) = let z : _≡_ {A = ℕ} 0 1 = cc in absurd (omega arith)

@@ -1,5 +1,6 @@
 -- DEMAND 2: what the key server does over a history, an opening and then any events with any rows and buffers. A server that refuses everything,
 -- one with a fixed reply, one that keeps nothing, or one that serves the first run alone would each break a line of it.
+use Rattle.rules.specs.Exact.{FiveAnswersKey}
 use Rattle.rules.specs.Numbers.{RunsAreNumbered}
 use Rattle.rules.specs.Late.{EndedStaysEnded, LapsedStaysLapsed, TheIncident}
 use Rattle.rules.specs.Room.{RoomComesBack, NoRunOnlyWhenFull, NoSessionOnlyWhenFull, NoHistoryWearsOut}
@@ -17,6 +18,7 @@ pub record Demand2 : Type 0 where
   -- each student's own: one session, one RAND, one B-TID; key, flags and user name as brought for that student
   pub rows-distinct : RowsAreDistinct
   pub btids-distinct : BtidsAreDistinct
+  pub five : FiveAnswersKey
   pub filed : FiledUnderItsOwnName
   pub keys : KeysAreOfTheirVector
   pub strings-distinct : StringsAreDistinct
