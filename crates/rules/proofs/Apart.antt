@@ -110,7 +110,8 @@ module _ (t : ℕ) (s : State) (d : Different t s) (i : ℕ) where
   unfolding started
   different-started r h =
       record {
-        owners = d .owners; rands = d .rands;
+        owners = d .owners;
+        rands = d .rands;
         runs = put-runs t s d i r (λ k n x y. absurd (true≢false (sym (x .challenged) ∙ h)));
         both = put-both t s d i r (λ k x y. absurd (true≢false (sym (x .challenged) ∙ h)));
       }
@@ -120,7 +121,8 @@ module _ (t : ℕ) (s : State) (d : Different t s) (i : ℕ) where
   unfolding filled
   different-filled r f g =
       record {
-        owners = d .owners; rands = d .rands;
+        owners = d .owners;
+        rands = d .rands;
         runs = put-runs t s d i r (λ k n x y. f k n y);
         both = put-both t s d i r (λ k x y. g k y);
       }
@@ -135,14 +137,14 @@ module _ (t : ℕ) (s : State) (d : Different t s) (i j : ℕ) (x : Session) (in
       record {
         owners = put-pairs noSession (Owners t) (λ a b f x y e. f y x (sym e)) (s .sessions .rows) j x (λ k n p q. own k n q) (d .owners);
         rands =
-          put-pairs noSession (Rands t) (λ a b f x y e. f y x (sym e)) (s .sessions .rows) j x (λ k n p q h. d .both i k b q (sym e ∙ h)) (d .rands);
+            put-pairs noSession (Rands t) (λ a b f x y e. f y x (sym e)) (s .sessions .rows) j x (λ k n p q h. d .both i k b q (sym e ∙ h)) (d .rands);
         runs = none-runs t s d i;
         both = λ k m.
-          put-all noSession (λ (y : Session). BothRands t (getD (set (s .runs .rows) i noRun) k noRun) y) (s .sessions .rows) j x
-          (⊎-elim (λ h. subst (λ (r : Run). BothRands t r x) (sym (h .1)) (λ p q. absurd (no-run-idle p)))
-          (λ h. subst (λ (r : Run). BothRands t r x) (sym (h .1)) (λ p q g. d .runs k i (h .0) p b (g ∙ e)))
-          (put-inside noRun (s .runs .rows) i noRun inside k))
-          (none-both t s d i k) m;
+            put-all noSession (λ (y : Session). BothRands t (getD (set (s .runs .rows) i noRun) k noRun) y) (s .sessions .rows) j x
+            (⊎-elim (λ h. subst (λ (r : Run). BothRands t r x) (sym (h .1)) (λ p q. absurd (no-run-idle p)))
+            (λ h. subst (λ (r : Run). BothRands t r x) (sym (h .1)) (λ p q g. d .runs k i (h .0) p b (g ∙ e)))
+            (put-inside noRun (s .runs .rows) i noRun inside k))
+            (none-both t s d i k) m;
       }
 
 -- ---- what the tests found
@@ -259,7 +261,9 @@ different-fresh domain restart lifetime =
     let idle : (i : ℕ) → Busy 0 (getD (replicate RUNS noRun) i noRun) → ⊥ = λ i b. no-run-idle (subst (Busy 0) (getD-none RUNS i noRun) b) in
     let over : (i : ℕ) → Live 0 (getD (replicate SESSIONS noSession) i noSession) → ⊥ = λ i l. no-session-over (subst (Live 0) (getD-none SESSIONS i noSession) l) in
     record {
-      owners = λ i j n x y. absurd (over i x); rands = λ i j n x y. absurd (over i x); runs = λ i j n x y. absurd (idle i x);
+      owners = λ i j n x y. absurd (over i x);
+      rands = λ i j n x y. absurd (over i x);
+      runs = λ i j n x y. absurd (idle i x);
       both = λ i j x y. absurd (idle i x);
     }
 
@@ -277,7 +281,8 @@ unfolding isOpen
 busy-of t r e c =
     record {
       some = eqb-false (r .number) 0 (not-true _ (and-left (not (eqb (r .number) 0)) (ltb t (r .start .0 + 30)) e));
-      soon = ltb-true t (r .start .0 + 30) (and-right (not (eqb (r .number) 0)) (ltb t (r .start .0 + 30)) e); challenged = c;
+      soon = ltb-true t (r .start .0 + 30) (and-right (not (eqb (r .number) 0)) (ltb t (r .start .0 + 30)) e);
+      challenged = c;
     }
 
 pub rows-distinct : RowsAreDistinct

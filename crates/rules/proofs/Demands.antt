@@ -27,12 +27,32 @@ replies-silent o old r new m h =
 
 pub demand-1 : Demand1
 demand-1 = record {
-  events-agree = agrees; events-determined = determined; events-silent = silent; events-sent = sends; replies-determined = replies-determined; replies-silent = replies-silent;
+  events-agree = agrees;
+  events-determined = determined;
+  events-silent = silent;
+  events-sent = sends;
+  replies-determined = replies-determined;
+  replies-silent = replies-silent;
 }
 
 pub demand-2 : Demand2
 demand-2 = record {
-  numbered = numbered; ended = ended-stays; lapsed = lapsed-stays; incident = incident; rows-distinct = rows-distinct; btids-distinct = btids-distinct;
-  five = five-answers-key; filed = filed; keys = keys-of-vector; strings-distinct = strings-distinct; room = room-comes-back; no-run = no-run-only; no-session = no-session-only;
-  never-worn = never-worn; only-while-live = only-while-live; while-live = while-live; stand = sessions-stand; answered-stand = answered-stand;
+  numbered = numbered;
+  ended = ended-stays;
+  lapsed = lapsed-stays;
+  incident = incident;
+  rows-distinct = rows-distinct;
+  btids-distinct = btids-distinct;
+  five = five-answers-key;
+  filed = filed;
+  keys = keys-of-vector;
+  strings-distinct = strings-distinct;
+  room = room-comes-back;
+  no-run = no-run-only;
+  no-session = no-session-only;
+  never-worn = never-worn;
+  only-while-live = only-while-live;
+  while-live = while-live;
+  stand = sessions-stand;
+  answered-stand = answered-stand;
 }

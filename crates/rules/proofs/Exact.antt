@@ -28,7 +28,9 @@ pub determined : AnswersAreDetermined
 determined s x r r′ new new′ m m′ =
     let d = determined-met s (decided s x) (x .old) r r′ new new′ m m′ in
     record {
-      number = ap (λ (q : Outcome). q .reply .no) (d .outcome); length = ap (λ (q : Outcome). q .reply .len) (d .outcome); octets = d .buffer;
+      number = ap (λ (q : Outcome). q .reply .no) (d .outcome);
+      length = ap (λ (q : Outcome). q .reply .len) (d .outcome);
+      octets = d .buffer;
       state = ap (λ (q : Outcome). q .state) (d .outcome);
     }
 
@@ -36,6 +38,8 @@ pub agrees : HistoriesAreOfTheContract
 unfolding output next outcomeOf
 agrees s x r new m =
     record {
-      number = ap (λ (q : Outcome). q .reply .no) (m .outcome); length = ap (λ (q : Outcome). q .reply .len) (m .outcome); octets = m .buffer;
+      number = ap (λ (q : Outcome). q .reply .no) (m .outcome);
+      length = ap (λ (q : Outcome). q .reply .len) (m .outcome);
+      octets = m .buffer;
       state = ap (λ (q : Outcome). q .state) (m .outcome);
     }

@@ -192,9 +192,32 @@ record Computed : Type 0 where
 computed : Computed
 unfolding pick front _▹_ replyOf bufferOf _>>=_ _>>_ refuse need mapR firstFrom orElse found same padded nameOctets encodeIn withNum groupsAt withSpan withEntry absentAt entriesAt settingsAt withSettings withNamed withQuintet decoded noRun startedRun filledRun isOpen isRun isOther isRight noSession sessionOf isOwn hasRand noSettings isEntry offers quintetOf entryOf withFields entriesFrom entriesOf settingsOf offeredAt offeredTo randSeen started filled ended established placeFor base64 btid part isRow isHost policyAt policyOf encodeOf identityOf wantedOf answered octetsOf stateOf fresh isNamed entryAt entryFor isAbsent wanted lacks grants keyRule keyFor noCopy chosen challenges fills vectorRule opens startRule makes fails concludes responseRule rightAt abortRule rule stepOf askedIn eventOf next output outputs numbersOf after answerOf runIn given runNamed timeOf nafAsked btidAsked applicationAsked crowd below all-below
 computed = record {
-  late-names = refl; late-numbers = refl; late-ended = refl; late-given = refl; late-named = refl; lapse-given = refl; lapse-numbers = refl; lapse-named = refl;
-  lapse-times = (refl, refl); room-numbers = refl; room-full = refl; full-number = refl; own-number = refl; room-times = (refl, refl); student-numbers = refl; rand-numbers = refl; live-octets = refl; live-event = refl; live-clock = refl; live-shelf = refl;
-  live-session = refl; live-named = refl; live-allowed = refl; filed-numbers = refl; filed-answer = refl; filed-entry = refl;
+  late-names = refl;
+  late-numbers = refl;
+  late-ended = refl;
+  late-given = refl;
+  late-named = refl;
+  lapse-given = refl;
+  lapse-numbers = refl;
+  lapse-named = refl;
+  lapse-times = (refl, refl);
+  room-numbers = refl;
+  room-full = refl;
+  full-number = refl;
+  own-number = refl;
+  room-times = (refl, refl);
+  student-numbers = refl;
+  rand-numbers = refl;
+  live-octets = refl;
+  live-event = refl;
+  live-clock = refl;
+  live-shelf = refl;
+  live-session = refl;
+  live-named = refl;
+  live-allowed = refl;
+  filed-numbers = refl;
+  filed-answer = refl;
+  filed-entry = refl;
 }
 
 -- ---- so each promise is met
@@ -221,8 +244,21 @@ filed-example = filed opening opens-so filed-past filed-key _ (computed .filed-a
 
 live-asks : Asks (after opening filed-past) filed-key 0
 live-asks = record {
-  t = 129; p = 4; pz = 5; b = 6; bz = 42; f = 43; fz = 51; application = 1; event = computed .live-event; room = omega arith;
-  clock = omega (arith, computed .live-clock); shelf = computed .live-shelf; live = computed .live-session; named = computed .live-named; allowed = computed .live-allowed;
+  t = 129;
+  p = 4;
+  pz = 5;
+  b = 6;
+  bz = 42;
+  f = 43;
+  fz = 51;
+  application = 1;
+  event = computed .live-event;
+  room = omega arith;
+  clock = omega (arith, computed .live-clock);
+  shelf = computed .live-shelf;
+  live = computed .live-session;
+  named = computed .live-named;
+  allowed = computed .live-allowed;
 }
 
 pub live-example : Answers (after opening filed-past) filed-key (keyed (keyedFor (after opening filed-past) filed-key 0))

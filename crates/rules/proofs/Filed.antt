@@ -67,8 +67,16 @@ module _ (s : State) (past ys : List Input) where
   began-longer : (n : ℕ) (impi : List ℕ) → Began s past n impi → Began s (past ++ ys) n impi
   began-longer n impi k =
       record {
-        before = k .before; start = k .start; rest = k .rest ++ ys; split = longer past (k .before) (k .rest) ys (k .start) (k .split);
-        t = k .t; a = k .a; z = k .z; event = k .event; names = k .names; gives = k .gives;
+        before = k .before;
+        start = k .start;
+        rest = k .rest ++ ys;
+        split = longer past (k .before) (k .rest) ys (k .start) (k .split);
+        t = k .t;
+        a = k .a;
+        z = k .z;
+        event = k .event;
+        names = k .names;
+        gives = k .gives;
       }
 
   kept-longer : (n : ℕ) (impi : List ℕ) (settings : Settings) → Kept s past n impi settings → Kept s (past ++ ys) n impi settings
@@ -78,15 +86,30 @@ module _ (s : State) (past ys : List Input) where
   came-longer : (n : ℕ) (impi rand ks : List ℕ) (settings : Settings) → Came s past n impi rand ks settings → Came s (past ++ ys) n impi rand ks settings
   came-longer n impi rand ks settings c =
       record {
-        before = c .before; vector = c .vector; rest = c .rest ++ ys; split = longer past (c .before) (c .rest) ys (c .vector) (c .split);
-        kind = c .kind; given = c .given; bringing = c .bringing; taken = c .taken; began = c .began; settled = c .settled;
+        before = c .before;
+        vector = c .vector;
+        rest = c .rest ++ ys;
+        split = longer past (c .before) (c .rest) ys (c .vector) (c .split);
+        kind = c .kind;
+        given = c .given;
+        bringing = c .bringing;
+        taken = c .taken;
+        began = c .began;
+        settled = c .settled;
       }
 
   made-longer : (n : ℕ) (text : List ℕ) (start expiry : ℕ) → Made s past n text start expiry → Made s (past ++ ys) n text start expiry
   made-longer n text start expiry m =
       record {
-        before = m .before; response = m .response; rest = m .rest ++ ys; split = longer past (m .before) (m .rest) ys (m .response) (m .split);
-        restart = m .restart; a = m .a; z = m .z; event = m .event; answer = m .answer;
+        before = m .before;
+        response = m .response;
+        rest = m .rest ++ ys;
+        split = longer past (m .before) (m .rest) ys (m .response) (m .split);
+        restart = m .restart;
+        a = m .a;
+        z = m .z;
+        event = m .event;
+        answer = m .answer;
       }
 
 -- ---- the invariant
@@ -115,7 +138,8 @@ module _ (s : State) (past ys : List Input) where
   run-longer : (r : Run) → RunOrigin s past r → RunOrigin s (past ++ ys) r
   run-longer r o =
       record {
-        began = λ z. began-longer s past ys _ _ (o .began z); kept = λ c t. kept-longer s past ys _ _ _ (o .kept c t);
+        began = λ z. began-longer s past ys _ _ (o .began z);
+        kept = λ c t. kept-longer s past ys _ _ _ (o .kept c t);
         came = λ c. came-longer s past ys _ _ _ _ _ (o .came c);
       }
 
@@ -156,7 +180,8 @@ offered-own impi t u h = go (first (isOwn impi t) (u .sessions .rows)) refl h
     go Nothing e l = absurd (none-offered l)
     go (At j) e l =
         record {
-          j = j; own = passed (isOwn impi t) noSession (u .sessions .rows) j e .passes;
+          j = j;
+          own = passed (isOwn impi t) noSession (u .sessions .rows) j e .passes;
           had = offers-own _ (sessionAt u j .settings) l ∙ ap (offeredAt u) (sym e);
         }
 
@@ -179,7 +204,15 @@ module _ (s : State) (past : List Input) (x : Input) (u : State) (here : after s
   began-now : (t a z : ℕ) (o : Result Done) (n : ℕ) → eventIn x ≡ Start t a z → decided u x ≡ o → given o ≡ n ∷ [] → Began s (past ++ (x ∷ [])) n (between (x .body) a z)
   began-now t a z o n v q g =
       record {
-        before = past; start = x; rest = []; split = refl; t = t; a = a; z = z; event = v; names = refl;
+        before = past;
+        start = x;
+        rest = [];
+        split = refl;
+        t = t;
+        a = a;
+        z = z;
+        event = v;
+        names = refl;
         gives = ap (λ (y : State). given (decided y x)) here ∙ ap given q ∙ g;
       }
 
@@ -222,7 +255,7 @@ module _ (s : State) (past : List Input) (x : Input) (u : State) (here : after s
         record {
           began = λ _. subst (Began s (past ++ (x ∷ [])) n) e (began-now t a z o n v q g);
           kept = λ c l. subst (λ (impi : List ℕ). Kept s (past ++ (x ∷ [])) n impi (offeredTo (between (x .body) a z) t u)) e
-            (kept-now t a z o n v q g (offered-own (between (x .body) a z) t u l));
+              (kept-now t a z o n v q g (offered-own (between (x .body) a z) t u l));
           came = λ c. absurd (true≢false (sym c));
         }
 
@@ -238,11 +271,17 @@ module _ (s : State) (past : List Input) (x : Input) (u : State) (here : after s
           began = λ z. began-longer s past (x ∷ []) _ _ (h .runs i .began z);
           kept = λ d. absurd (true≢false d);
           came = λ d. record {
-            before = past; vector = x; rest = []; split = refl; kind = kind; given = settings;
+            before = past;
+            vector = x;
+            rest = [];
+            split = refl;
+            kind = kind;
+            given = settings;
             bringing = subst (λ (n : ℕ). Brings x n (octetsOf (r .impi)) (between (x .body) rand (rand + BARE)) (ksOf (x .body) ck ik) kind settings) (sym e)
-              (subst (λ (impi : List ℕ). Brings x n impi (between (x .body) rand (rand + BARE)) (ksOf (x .body) ck ik) kind settings) (sym m)
-              (brings t restart n a z rand autn xres xend ck ik kind lifetime timestamp count entries v));
-            taken = taken-now o q y; began = h .runs i .began (λ z. g (sym e ∙ z));
+                (subst (λ (impi : List ℕ). Brings x n impi (between (x .body) rand (rand + BARE)) (ksOf (x .body) ck ik) kind settings) (sym m)
+                (brings t restart n a z rand autn xres xend ck ik kind lifetime timestamp count entries v));
+            taken = taken-now o q y;
+            began = h .runs i .began (λ z. g (sym e ∙ z));
             settled = settled-now (r .number) kind settings r refl k (h .runs i .kept c);
           };
         }
@@ -251,7 +290,13 @@ module _ (s : State) (past : List Input) (x : Input) (u : State) (here : after s
         → runAt u i .number ≡ n → Made s (past ++ (x ∷ [])) (runAt u i .number) text t expiry
     made-now t restart n a z i text expiry o v q g e =
         record {
-          before = past; response = x; rest = []; split = refl; restart = restart; a = a; z = z;
+          before = past;
+          response = x;
+          rest = [];
+          split = refl;
+          restart = restart;
+          a = a;
+          z = z;
           event = v ∙ ap (λ (m : ℕ). Response t restart m a z) (sym e);
           answer = ap (λ (y : State). mapR answerOf (decided y x)) here ∙ ap (mapR answerOf) q ∙ g;
         }
@@ -263,18 +308,23 @@ module _ (s : State) (past : List Input) (x : Input) (u : State) (here : after s
         record { lifetime = h .lifetime; domain = h .domain; runs = rows-put i _ (start-origin t a z _ _ v q refl); sessions = sessions-same }
     origins v q (vectors i o c m y d) =
         record {
-          lifetime = h .lifetime; domain = h .domain; sessions = sessions-same;
+          lifetime = h .lifetime;
+          domain = h .domain;
+          sessions = sessions-same;
           runs = rows-put i _ (vector-origin _ _ _ _ _ _ _ _ _ _ _ _ _ _ _ _ _ i v q refl (o .given) (o .number) c m y _ _);
         }
     origins v q (rights {t = t} {restart = restart} {n = n} {a = a} {z = z} i j o c r p) =
         record {
-          lifetime = h .lifetime; domain = h .domain; runs = rows-none i;
+          lifetime = h .lifetime;
+          domain = h .domain;
+          runs = rows-none i;
           sessions = put-all noSession (Held s (past ++ (x ∷ []))) (u .sessions .rows) j _
-            (λ l. record {
-              n = runAt u i .number; came = came-longer s past (x ∷ []) _ _ _ _ _ (h .runs i .came c);
-              made = made-now t restart n a z i _ _ _ v q (ap (λ (d : Name). ok (made (btid (runAt u i .rand) (octetsOf d)) t (expiryOf u t (runAt u i) .0))) (h .domain)) (o .number);
-              expires = ap (λ (y : Lifetime). t + lifetimeOf y (runAt u i .settings) .0) (h .lifetime);
-            }) sessions-same;
+              (λ l. record {
+                n = runAt u i .number;
+                came = came-longer s past (x ∷ []) _ _ _ _ _ (h .runs i .came c);
+                made = made-now t restart n a z i _ _ _ v q (ap (λ (d : Name). ok (made (btid (runAt u i .rand) (octetsOf d)) t (expiryOf u t (runAt u i) .0))) (h .domain)) (o .number);
+                expires = ap (λ (y : Lifetime). t + lifetimeOf y (runAt u i .settings) .0) (h .lifetime);
+              }) sessions-same;
         }
     origins v q (wrongs i o c r) = record { lifetime = h .lifetime; domain = h .domain; runs = rows-none i; sessions = sessions-same }
     origins v q (aborts i o) = record { lifetime = h .lifetime; domain = h .domain; runs = rows-none i; sessions = sessions-same }
@@ -296,7 +346,8 @@ origins-fresh : (domain : List ℕ) (restart lifetime : ℕ) → Origins (fresh 
 unfolding fresh
 origins-fresh domain restart lifetime =
     record {
-      lifetime = refl; domain = refl;
+      lifetime = refl;
+      domain = refl;
       runs = λ i. subst (RunOrigin _ []) (sym (getD-none RUNS i noRun)) (no-run-origin _ []);
       sessions = λ j. subst (Held _ []) (sym (getD-none SESSIONS j noSession)) (no-session-held _ []);
     }
@@ -319,14 +370,22 @@ pub record About (u : State) (x : Input) (a : Keyed) : Type 0 where
 
 pub keyed-as : (u : State) (body : List ℕ) (w : Policy) (j t p pz b bz f fz application : ℕ) (e : Event) → e ≡ Key t p pz b bz f fz application
     → _≡_ {A = Keyed}
-      (record {
-        subject = sessionAt u j .impi; key = keyFor (between body f fz) (sessionAt u j); start = sessionAt u j .start .0; expiry = sessionAt u j .expiry .0;
-        shown = w .identity; wanted = wanted application (w .group) (sessionAt u j .settings);
-      })
-      (record {
-        subject = sessionAt u j .impi; key = keyFor (nafAsked body e) (sessionAt u j); start = sessionAt u j .start .0; expiry = sessionAt u j .expiry .0;
-        shown = w .identity; wanted = wanted (applicationAsked e) (w .group) (sessionAt u j .settings);
-      })
+    (record {
+      subject = sessionAt u j .impi;
+      key = keyFor (between body f fz) (sessionAt u j);
+      start = sessionAt u j .start .0;
+      expiry = sessionAt u j .expiry .0;
+      shown = w .identity;
+      wanted = wanted application (w .group) (sessionAt u j .settings);
+    })
+    (record {
+      subject = sessionAt u j .impi;
+      key = keyFor (nafAsked body e) (sessionAt u j);
+      start = sessionAt u j .start .0;
+      expiry = sessionAt u j .expiry .0;
+      shown = w .identity;
+      wanted = wanted (applicationAsked e) (w .group) (sessionAt u j .settings);
+    })
 unfolding nafAsked applicationAsked
 keyed-as u body w j t p pz b bz f fz application e v = rw v
 
@@ -346,7 +405,9 @@ about u x a v q (keys {t = t} {p = p} {pz = pz} {b = b} {bz = bz} {f = f} {fz = 
     let k = keyed-as u (x .body) (policy x) j t p pz b bz f fz application (eventIn x) v in
     let n = is-named _ _ t (sessionAt u j) (passed (isNamed (between (x .body) b bz) (octetsOf (u .domain)) t) noSession (u .sessions .rows) j g .passes) in
     record {
-      row = j; answer = cc; live = ap (λ (e : Event). isLive (timeOf e) (sessionAt u j)) v ∙ (unfold timeOf in n .0);
+      row = j;
+      answer = cc;
+      live = ap (λ (e : Event). isLive (timeOf e) (sessionAt u j)) v ∙ (unfold timeOf in n .0);
       named = n .1 ∙ sym (ap (btidAsked (x .body)) v ∙ (unfold btidAsked in refl));
     }
 

@@ -23,8 +23,28 @@ keying : (s : State) (xs : List Input) (x : Input) (a : Keyed) (v : Input) (w : 
     → Brings v n impi rand ks kind given → Keying s xs x a
 keying s xs x a v w y q k (brings t restart n impi end rand autn xres xend ck ik kind lifetime timestamp count entries e) =
     record {
-      vector = v; within = w; taken = y; t = t; restart = restart; n = n; impi = impi; end = end; rand = rand; autn = autn; xres = xres; xend = xend; ck = ck; ik = ik;
-      kind = kind; lifetime = lifetime; timestamp = timestamp; count = count; entries = entries; event = e; subject = q; key = k;
+      vector = v;
+      within = w;
+      taken = y;
+      t = t;
+      restart = restart;
+      n = n;
+      impi = impi;
+      end = end;
+      rand = rand;
+      autn = autn;
+      xres = xres;
+      xend = xend;
+      ck = ck;
+      ik = ik;
+      kind = kind;
+      lifetime = lifetime;
+      timestamp = timestamp;
+      count = count;
+      entries = entries;
+      event = e;
+      subject = q;
+      key = k;
     }
 
 pub keys-of-vector : KeysAreOfTheirVector

@@ -114,7 +114,7 @@ unfolding eventOf stepOf staleRule output
 too-late s x n h z e k =
     let p = stale-rule s (policy x) (x .body) (eventIn x) n z e (λ c. none-open s (timeOf (eventIn x)) n (k c)) in
     let q : decided s x ≡ staleRule s x =
-        sym (passes-set 1 _ (staleRule s x) (s .ready) (h .ready) (ap (λ (o : Result Done). refuse 2 (ltb (length (x .old)) ROOM) >> o) (sym p))) in
+    sym (passes-set 1 _ (staleRule s x) (s .ready) (h .ready) (ap (λ (o : Result Done). refuse 2 (ltb (length (x .old)) ROOM) >> o) (sym p))) in
     record { refusal = q; state = silent s x (λ y. stale-nonzero s x (ap (λ (o : Result Done). replyOf (mapR octetsOf o) .no) (sym q) ∙ y)) .state }
 
 -- ---- ended
@@ -128,11 +128,11 @@ unfolding noRun
 gone-row s i n h z l e k q =
     ⊎-elim
     (λ b. let c : k ≡ i = eqb-true k i b in
-      z (sym q ∙ ap (λ (j : ℕ). getD (set (s .runs .rows) i noRun) j noRun .number) c ∙ ap (λ (r : Run). r .number) (getD-set-same (s .runs .rows) i noRun noRun l)))
+    z (sym q ∙ ap (λ (j : ℕ). getD (set (s .runs .rows) i noRun) j noRun .number) c ∙ ap (λ (r : Run). r .number) (getD-set-same (s .runs .rows) i noRun noRun l)))
     (λ b.
-      let c : k ≢ i = eqb-false k i b in
-      let r : runAt s k .number ≡ n = ap (λ (r : Run). r .number) (sym (getD-set-other (s .runs .rows) i k noRun noRun c)) ∙ q in
-      z (sym r ∙ h .apart k i c (r ∙ sym e)))
+    let c : k ≢ i = eqb-false k i b in
+    let r : runAt s k .number ≡ n = ap (λ (r : Run). r .number) (sym (getD-set-other (s .runs .rows) i k noRun noRun c)) ∙ q in
+    z (sym r ∙ h .apart k i c (r ∙ sym e)))
     (split (eqb k i))
 
 module _ (s : State) (w : Policy) (body : List ℕ) (h : Sound s) where
@@ -176,7 +176,8 @@ module _ (s : State) (w : Policy) (body : List ℕ) (h : Sound s) where
   given-now n q (starts {t = t} i c l f) =
       let k : s .last + 1 ≡ n = cc in
       record {
-        some = omega arith; known = omega arith;
+        some = omega arith;
+        known = omega arith;
         rows = put-all noRun (λ (r : Run). r .number ≡ n → r .start .0 ≡ t) (s .runs .rows) i _ (λ e. refl) (λ j e. absurd (omega (arith, h .given j, e)));
       }
   given-now n q (vectors i o c m y d) = let z : _≡_ {A = ℕ} 0 1 = cc in absurd (omega arith)

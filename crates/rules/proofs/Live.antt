@@ -60,8 +60,12 @@ only-while-live s x a q =
 -- the answer about the session in row j
 abbrev answerFor : State → Policy → List ℕ → ℕ → ℕ → Keyed
 answerFor u w naf application j = record {
-  subject = sessionAt u j .impi; key = keyFor naf (sessionAt u j); start = sessionAt u j .start .0; expiry = sessionAt u j .expiry .0;
-  shown = w .identity; wanted = wanted application (w .group) (sessionAt u j .settings);
+  subject = sessionAt u j .impi;
+  key = keyFor naf (sessionAt u j);
+  start = sessionAt u j .start .0;
+  expiry = sessionAt u j .expiry .0;
+  shown = w .identity;
+  wanted = wanted application (w .group) (sessionAt u j .settings);
 }
 
 serves : (u : State) (w : Policy) (t : ℕ) (text naf : List ℕ) (application j : ℕ) → u .clock .0 ≤ t → w .found ≡ true
@@ -109,7 +113,7 @@ while-live s o xs a x j h =
     let e = h .event in
     let d = finds s o xs a (h .t) j (between (x .body) (h .b) (h .bz)) (h .clock) (h .live) (h .named ∙ ap (btidAsked (x .body)) e ∙ (unfold btidAsked in refl)) in
     let q = in-front u x (sound-after s xs (sound-opened s o) .ready) (h .room) ∙ ap (rule u (policy x) (x .body)) e
-          ∙ sym (serves u (policy x) (h .t) _ (between (x .body) (h .f) (h .fz)) (h .application) j (h .clock) (h .shelf) d (h .allowed)) in
+    ∙ sym (serves u (policy x) (h .t) _ (between (x .body) (h .f) (h .fz)) (h .application) j (h .clock) (h .shelf) d (h .allowed)) in
     ap (mapR answerOf) q ∙ (unfold answered mapR answerOf in ap (λ (a : Keyed). ok (keyed a)) (keyed-as u (x .body) (policy x) j _ _ _ _ _ _ _ _ (eventIn x) e))
 
 -- ---- a session stands
@@ -172,7 +176,9 @@ made-row s w body text start expiry q (rights {t = t} i k o c r p) =
     let b : t ≡ start = cc in
     let d : expiryOf s t (runAt s i) .0 ≡ expiry = cc in
     record {
-      row = k; named = ap (λ (y : Session). btid (y .rand) (octetsOf (s .domain))) g ∙ a; start-is = ap (λ (y : Session). y .start .0) g ∙ b;
+      row = k;
+      named = ap (λ (y : Session). btid (y .rand) (octetsOf (s .domain))) g ∙ a;
+      start-is = ap (λ (y : Session). y .start .0) g ∙ b;
       expiry-is = ap (λ (y : Session). y .expiry .0) g ∙ d;
     }
 made-row s w body text start expiry q (wrongs i o c r) = let z : _≡_ {A = ℕ} 0 1 = cc in absurd (omega arith)

@@ -58,6 +58,6 @@ btids-distinct s o xs a t c i j p q e =
     let w = came-rand s xs _ _ _ _ _ a (session-origin s o xs j t q .came) in
     ⊎-elim (λ b. eqb-true i j b)
     (λ b. absurd
-      (rows-distinct s o xs t c .session-rands i j (eqb-false i j b) p q
-      (btid-apart (octetsOf (u .domain)) (sessionAt u i .rand) (sessionAt u j .rand) (r .octets) (w .octets) (r .long) (w .long) e)))
+    (rows-distinct s o xs t c .session-rands i j (eqb-false i j b) p q
+    (btid-apart (octetsOf (u .domain)) (sessionAt u i .rand) (sessionAt u j .rand) (r .octets) (w .octets) (r .long) (w .long) e)))
     (split (eqb i j))

@@ -106,7 +106,7 @@ numbered s o xs =
       ordered = r;
       each = λ x t a y e h. start-gives (after s xs) (policy x) (x .body) e (did (after s xs) x) h ∙ ap (λ (n : ℕ). n ∷ []) (omega (arith, u .last));
       once = λ i j l h.
-        let p : getD (numbers s xs) i 0 ≡ 1 + i = ap (λ (m : List ℕ). getD m i 0) r ∙ up-at 1 (length (numbers s xs)) i (omega arith) in
-        let q : getD (numbers s xs) j 0 ≡ 1 + j = ap (λ (m : List ℕ). getD m j 0) r ∙ up-at 1 (length (numbers s xs)) j h in
-        omega arith;
+          let p : getD (numbers s xs) i 0 ≡ 1 + i = ap (λ (m : List ℕ). getD m i 0) r ∙ up-at 1 (length (numbers s xs)) i (omega arith) in
+          let q : getD (numbers s xs) j 0 ≡ 1 + j = ap (λ (m : List ℕ). getD m j 0) r ∙ up-at 1 (length (numbers s xs)) j h in
+          omega arith;
     }

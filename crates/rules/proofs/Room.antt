@@ -70,7 +70,11 @@ no-run-only s o xs x q =
     let h = sound-after s xs (sound-opened s o) in
     let f = full refl (why-refused (after s xs) x 6 (omega arith) q) in
     record {
-      t = f .t; impi = f .impi; end = f .end; event = f .event; many = h .runs-long;
+      t = f .t;
+      impi = f .impi;
+      end = f .end;
+      event = f .event;
+      many = h .runs-long;
       each-open = λ i l. not-false _ (missed (isFree (f .t)) noRun (after s xs .runs .rows) (f .none) i (omega (arith, h .runs-long)));
     }
 
@@ -121,7 +125,7 @@ room-comes-back s o xs x q ys z y l r =
     let h = sound-after s xs (sound-opened s o) in
     let f = full refl (why-refused (after s xs) x 6 (omega arith) q) in
     let d = waits (f .t) (after s xs) (λ i. omega (arith, h .early i, f .clock)) (policy x) (x .body)
-        (ap given (refused-out (after s xs) x 6 q (omega arith)) ∙ (unfold given in refl)) (did (after s xs) x) in
+    (ap given (refused-out (after s xs) x 6 q (omega arith)) ∙ (unfold given in refl)) (did (after s xs) x) in
     let u = waited (f .t) (next (after s xs) x) ys z d in
     let k = sound-after (next (after s xs) x) ys (sound-step (after s xs) x h) in
     let g = full refl (why-refused (after (next (after s xs) x) ys) y 6 (omega arith) r) in
@@ -145,9 +149,18 @@ crowded v q h (no-run c f) = absurd (omega arith)
 crowded {s} v q h (no-session {t = t} {restart = restart} {n = n} {a = a} {z = z} i o c f) =
     let k = no-place _ _ f in
     let live : (j : ℕ) → j < SESSIONS → isLive t (sessionAt s j) ≡ true
-          = λ j l. not-false _ (missed (isOver t) noSession (s .sessions .rows) (k .1) j (omega (arith, h .sessions-long))) in
+    = λ j l. not-false _ (missed (isOver t) noSession (s .sessions .rows) (k .1) j (omega (arith, h .sessions-long))) in
     record {
-      t = t; restart = restart; n = n; res = a; end = z; i = i; event = v; run = o .number; many = h .sessions-long; live = live;
+      t = t;
+      restart = restart;
+      n = n;
+      res = a;
+      end = z;
+      i = i;
+      event = v;
+      run = o .number;
+      many = h .sessions-long;
+      live = live;
       others = λ j l d. not-own t (sessionAt s j) _ (live j l) d (missed (isOwn (octetsOf (runAt s i .impi)) t) noSession (s .sessions .rows) (k .0) j (omega (arith, h .sessions-long)));
     }
 

@@ -26,7 +26,8 @@ unfolding output replyOf bufferOf
 sends s x a q =
     let e = seen (decided s x) a q in
     record {
-      number = ap (λ (o : Result (List ℕ)). replyOf o .no) e; length = ap (λ (o : Result (List ℕ)). replyOf o .len) e;
+      number = ap (λ (o : Result (List ℕ)). replyOf o .no) e;
+      length = ap (λ (o : Result (List ℕ)). replyOf o .len) e;
       octets = ap (bufferOf (x .old)) e;
     }
 

@@ -102,8 +102,14 @@ pub record Fits (s : State) (t i : ℕ) (last : ℕ) (r : Run) : Type 0 where
 
 abbrev put : State → ℕ → ℕ → ℕ → Run → Sessions → State
 put s t i last r sessions = record {
-  ready = s .ready; domain = s .domain; restart = s .restart; lifetime = s .lifetime; clock = moment t; last = last;
-  runs = putRun (s .runs) i r; sessions = sessions;
+  ready = s .ready;
+  domain = s .domain;
+  restart = s .restart;
+  lifetime = s .lifetime;
+  clock = moment t;
+  last = last;
+  runs = putRun (s .runs) i r;
+  sessions = sessions;
 }
 
 module _ (s : State) (t i : ℕ) (h : Sound s) where
@@ -111,7 +117,9 @@ module _ (s : State) (t i : ℕ) (h : Sound s) where
       → Sound (put s t i last r sessions)
   sound-put last r sessions c l m f =
       record {
-        ready = h .ready; runs-long = length-set (s .runs .rows) i r ∙ h .runs-long; sessions-long = m;
+        ready = h .ready;
+        runs-long = length-set (s .runs .rows) i r ∙ h .runs-long;
+        sessions-long = m;
         early = put-all noRun (λ (r : Run). r .start .0 ≤ t) (s .runs .rows) i r (f .early) (λ k. omega (arith, h .early k));
         given = put-all noRun (λ (r : Run). r .number ≤ last) (s .runs .rows) i r (f .given) (λ k. omega (arith, h .given k));
         apart = put-pairs noRun Apart apart-flip (s .runs .rows) i r (f .apart) (h .apart);
@@ -151,7 +159,9 @@ sound-fresh : (domain : List ℕ) (restart lifetime : ℕ) → Sound (fresh doma
 unfolding fresh
 sound-fresh domain restart lifetime =
     record {
-      ready = refl; runs-long = length-replicate RUNS noRun; sessions-long = length-replicate SESSIONS noSession;
+      ready = refl;
+      runs-long = length-replicate RUNS noRun;
+      sessions-long = length-replicate SESSIONS noSession;
       early = λ i. subst (λ (r : Run). r .start .0 ≤ 0) (sym (getD-none RUNS i noRun)) (unfold noRun in omega arith);
       given = λ i. subst (λ (r : Run). r .number ≤ 0) (sym (getD-none RUNS i noRun)) (unfold noRun in omega arith);
       apart = λ j k n e. ap (λ (r : Run). r .number) (getD-none RUNS j noRun) ∙ (unfold noRun in refl);

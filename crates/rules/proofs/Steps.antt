@@ -68,17 +68,17 @@ pub data Did (s : State) (w : Policy) (body : List ℕ) : Event → Result Done 
   refuses : {e : Event} {n : ℕ} → Why s e n → Did s w body e (refused n)
   starts : {t a z : ℕ} (i : ℕ) → s .clock .0 ≤ t → s .last < LAST → first (isFree t) (s .runs .rows) ≡ At i
       → Did s w body (Start t a z)
-        (opens s t i (between body a z) (offeredTo (between body a z) t s))
+      (opens s t i (between body a z) (offeredTo (between body a z) t s))
   vectors : {t restart n a z rand autn x xz ck ik kind lifetime timestamp count entries : ℕ} (i : ℕ) → Open s t restart n i
       → runAt s i .challenged ≡ false → octetsOf (runAt s i .impi) ≡ between body a z → noCopy kind (runAt s i) ≡ false
       → randSeen n (quintetOf body rand autn x xz ck ik .rand) t s ≡ false
       → Did s w body (Vector t restart n a z rand autn x xz ck ik kind lifetime timestamp count entries)
-        (challenges s t i (quintetOf body rand autn x xz ck ik) (chosen kind (settingsOf body lifetime timestamp count entries) (runAt s i)) (runAt s i))
+      (challenges s t i (quintetOf body rand autn x xz ck ik) (chosen kind (settingsOf body lifetime timestamp count entries) (runAt s i)) (runAt s i))
   rights : {t restart n a z : ℕ} (i j : ℕ) → Open s t restart n i → runAt s i .challenged ≡ true → rightFor s t n (between body a z) ≡ true
       → placeFor (octetsOf (runAt s i .impi)) t (s .sessions .rows) ≡ At j
       → Did s w body (Response t restart n a z)
-        (answered (made (btid (runAt s i .rand) (octetsOf (s .domain))) t (expiryOf s t (runAt s i) .0))
-        (established s t i j (sessionOf (moment t) (expiryOf s t (runAt s i)) (runAt s i))))
+      (answered (made (btid (runAt s i .rand) (octetsOf (s .domain))) t (expiryOf s t (runAt s i) .0))
+      (established s t i j (sessionOf (moment t) (expiryOf s t (runAt s i)) (runAt s i))))
   wrongs : {t restart n a z : ℕ} (i : ℕ) → Open s t restart n i → runAt s i .challenged ≡ true → rightFor s t n (between body a z) ≡ false
       → Did s w body (Response t restart n a z) (answered wrong (ended s t i))
   aborts : {t restart n : ℕ} (i : ℕ) → Open s t restart n i → Did s w body (Abort t restart n) (answered aborted (ended s t i))
@@ -86,11 +86,15 @@ pub data Did (s : State) (w : Policy) (body : List ℕ) : Event → Result Done 
       → first (isNamed (between body b bz) (octetsOf (s .domain)) t) (s .sessions .rows) ≡ At j
       → lacks w (sessionAt s j .settings) ≡ false
       → Did s w body (Key t p pz b bz f fz application)
-        (answered
-        (keyed (record {
-          subject = sessionAt s j .impi; key = keyFor (between body f fz) (sessionAt s j); start = sessionAt s j .start .0; expiry = sessionAt s j .expiry .0;
-          shown = w .identity; wanted = wanted application (w .group) (sessionAt s j .settings);
-        })) s)
+      (answered
+      (keyed (record {
+        subject = sessionAt s j .impi;
+        key = keyFor (between body f fz) (sessionAt s j);
+        start = sessionAt s j .start .0;
+        expiry = sessionAt s j .expiry .0;
+        shown = w .identity;
+        wanted = wanted application (w .group) (sessionAt s j .settings);
+      })) s)
 
 open-run : (s : State) (t restart n i : ℕ) → s .clock .0 ≤ t → restart ≡ s .restart → first (isRun n t) (s .runs .rows) ≡ At i → Open s t restart n i
 unfolding isRun isOpen
@@ -100,9 +104,13 @@ open-run s t restart n i c u e =
     let q : r .number ≡ n = eqb-true (r .number) n (and-left (eqb (r .number) n) (isOpen t r) (p .passes)) in
     let o : isOpen t r ≡ true = and-right (eqb (r .number) n) (isOpen t r) (p .passes) in
     record {
-      clock = c; ours = u; inside = p .inside; number = q;
+      clock = c;
+      ours = u;
+      inside = p .inside;
+      number = q;
       given = λ z. eqb-false (r .number) 0 (not-true _ (and-left (not (eqb (r .number) 0)) (ltb t (r .start .0 + 30)) o)) (q ∙ z);
-      soon = ltb-true t (r .start .0 + 30) (and-right (not (eqb (r .number) 0)) (ltb t (r .start .0 + 30)) o); found = e;
+      soon = ltb-true t (r .start .0 + 30) (and-right (not (eqb (r .number) 0)) (ltb t (r .start .0 + 30)) o);
+      found = e;
     }
 
 module _ (s : State) (w : Policy) (body : List ℕ) {e : Event} where

@@ -81,14 +81,14 @@ module _ {A : Type 0} (d : A) where
   put-pairs R flip l i x h f j k n =
       ⊎-elim
       (λ e.
-        ⊎-elim (λ g. absurd (n (e .0 ∙ sym (g .0))))
-        (λ g. subst (λ (a : A). R a (getD (set l i x) k d)) (sym (e .1)) (subst (R x) (sym g) (h k (λ q. n (e .0 ∙ sym q)))))
-        (put-row l i x k))
+      ⊎-elim (λ g. absurd (n (e .0 ∙ sym (g .0))))
+      (λ g. subst (λ (a : A). R a (getD (set l i x) k d)) (sym (e .1)) (subst (R x) (sym g) (h k (λ q. n (e .0 ∙ sym q)))))
+      (put-row l i x k))
       (λ e.
-        ⊎-elim
-        (λ g. subst (λ (a : A). R a (getD (set l i x) k d)) (sym e) (subst (R (getD l j d)) (sym (g .1)) (flip _ _ (h j (λ q. n (q ∙ sym (g .0)))))))
-        (λ g. subst (λ (a : A). R a (getD (set l i x) k d)) (sym e) (subst (R (getD l j d)) (sym g) (f j k n)))
-        (put-row l i x k))
+      ⊎-elim
+      (λ g. subst (λ (a : A). R a (getD (set l i x) k d)) (sym e) (subst (R (getD l j d)) (sym (g .1)) (flip _ _ (h j (λ q. n (q ∙ sym (g .0)))))))
+      (λ g. subst (λ (a : A). R a (getD (set l i x) k d)) (sym e) (subst (R (getD l j d)) (sym g) (f j k n)))
+      (put-row l i x k))
       (put-row l i x j)
 
 -- where no row passes, none is found
