@@ -3,23 +3,21 @@
 use Prim.Native.Nat.{ℕ, _+_, _<_, _≤_}
 use native.Mathlib.Omega.{arith}
 use mathlib.Core.Path.{_≡_, refl, sym, ap, subst, _∙_}
-use mathlib.Core.Logic.{_≢_, _⊎_, inl, inr, ⊎-elim}
-use mathlib.Core.Bool.{Bool, true, false, not, _&&_, _||_, true≢false}
-use mathlib.Core.List.{List, [], _∷_}
+use mathlib.Core.Logic.{_≢_, _⊎_, ⊎-elim}
+use mathlib.Core.Bool.{true, false, not, _||_, true≢false}
+use mathlib.Core.List.{List}
 use lib.Dec.{eqb, ltb}
 use lib.ListN.{length, getD, set, replicate, List·getD-eq-default}
-use borrow.Author.Tests.{ltb-true, ltb-false, lt-ltb, eqb-true, eqb-false, ne-eqb, not-true}
+use borrow.Author.Tests.{ltb-true, ltb-false, lt-ltb, eqb-false, ne-eqb, not-true}
 use Rattle.flow.specs.Result.{Result}
 use Rattle.flow.specs.Search.{first, orElse, found}
 use Rattle.flow.specs.declared.Found.{Found}
 use Rattle.flow.specs.declared.Found.the-variants.{At, Nothing}
-use Rattle.flow.proofs.Choices.{split}
 use Rattle.octets.specs.Octets.{same}
 use Rattle.octets.proofs.Laws.{and-left, and-right, same-refl, same-equal, sides}
 use Rattle.names.specs.Name.{octetsOf}
 use Rattle.event.specs.declared.Event.{Event}
 use Rattle.records.specs.Rows.{isOpen, isOther, isLive, isOwn, hasRand, noRun, noSession, startedRun, filledRun, sessionOf}
-use Rattle.records.specs.declared.Moment.{Moment}
 use Rattle.records.specs.declared.Run.{Run}
 use Rattle.records.specs.declared.Session.{Session}
 use Rattle.shelves.specs.declared.Policy.{Policy}
@@ -32,7 +30,7 @@ use Rattle.rules.specs.Start.{opens}
 use Rattle.rules.specs.Vector.{challenges}
 use Rattle.rules.specs.History.{Input, next, after}
 use Rattle.rules.specs.Said.{Opened}
-use Rattle.rules.specs.Apart.{Distinct, RowsAreDistinct}
+use Rattle.rules.specs.Apart.{RowsAreDistinct}
 use Rattle.rules.proofs.Tables.{passed, missed, put-all, put-pairs, put-inside}
 use Rattle.rules.proofs.Steps.{Open, Did, refuses, starts, vectors, rights, wrongs, aborts, keys, policy, did}
 use Rattle.rules.proofs.Sound.{through, opened-fresh, getD-none, Sound, sound-step, sound-opened}

@@ -1,5 +1,5 @@
 -- Demands 1 and 2, each from the promises that it gathers.
-use mathlib.Core.Path.{_≡_, ap}
+use mathlib.Core.Path.{ap}
 use Rattle.flow.specs.declared.Reply.{Reply}
 use Rattle.flow.proofs.Replies.{determined as reply-determined, silent as reply-silent}
 use Rattle.rules.specs.Demand1.{RepliesAreDetermined, RepliesAreSilent, Demand1}

@@ -1,13 +1,12 @@
 -- The promises over histories are about something: for each a closed history, computed by the checker, meets what it asks for.
-use Prim.Native.Nat.{ℕ, zero, suc, _<_}
+use Prim.Native.Nat.{ℕ, zero, suc}
 use native.Mathlib.Omega.{arith}
-use native.Mathlib.Bridge.{le-by-compare, IsLe}
-use mathlib.Core.Path.{_≡_, refl, sym, ap, subst, _∙_}
+use mathlib.Core.Path.{_≡_, refl, subst}
 use mathlib.Core.Logic.{_≢_}
 use mathlib.Core.Bool.{Bool, true, false, _&&_}
-use mathlib.Core.List.{List, [], _∷_, _++_, map}
+use mathlib.Core.List.{List, [], _∷_, _++_}
 use lib.Dec.{ltb}
-use lib.ListN.{getD, replicate}
+use lib.ListN.{replicate}
 use borrow.Author.Tests.{ltb-true}
 use Rattle.flow.specs.Choice.{pick}
 use Rattle.flow.specs.Front.{front, _▹_}
@@ -37,19 +36,18 @@ use Rattle.rules.specs.Server.{rule, stepOf, askedIn}
 use Rattle.octets.specs.Octets.{same, padded}
 use Rattle.octets.proofs.Laws.{and-left, and-right}
 use Rattle.line.specs.Number.{Octets}
-use Rattle.answer.specs.Answer.{Keyed, keyed, present}
+use Rattle.answer.specs.Answer.{keyed, present}
 use Rattle.rules.specs.Opening.{fresh, openRule}
 use Rattle.rules.specs.History.{eventOf, Input, decided, next, output, after, outputs}
-use Rattle.rules.specs.Said.{Opened, answerOf, Answers, Within, number}
+use Rattle.rules.specs.Said.{Opened, answerOf, Answers, number}
 use Rattle.rules.specs.Numbers.{runIn, given, numbers}
-use Rattle.rules.specs.Late.{timeOf, runNamed, runEnded, eventIn, Late, Lapses, Untouched}
+use Rattle.rules.specs.Late.{timeOf, runNamed, eventIn, Late, Untouched}
 use Rattle.rules.specs.Room.{SessionsFull}
-use Rattle.rules.specs.Apart.{AllOctets}
 use Rattle.rules.specs.Filed.{nafAsked, btidAsked, applicationAsked, policyIn, keyedFor, Filed}
 use Rattle.rules.specs.Live.{Asks}
-use Rattle.rules.specs.Marked.{DOMAIN, ALICE, CAROL, RAND, BTID, XRES, startBody, vectorBody, responseBody, abortBody, keyBody, opening, input, run, numbersOf, NONE, AT98, AT99, AT100, AT129, AT130}
+use Rattle.rules.specs.Marked.{DOMAIN, ALICE, CAROL, RAND, XRES, startBody, vectorBody, responseBody, abortBody, keyBody, opening, input, run, numbersOf, NONE, AT98, AT99, AT100, AT129, AT130}
 use Rattle.event.specs.declared.Event.the-variants.{Abort, Key}
-use Rattle.rules.proofs.Late.{incident, ended-stays, lapsed-stays}
+use Rattle.rules.proofs.Late.{incident, lapsed-stays}
 use Rattle.rules.proofs.Room.{room-comes-back, no-session-only}
 use Rattle.rules.proofs.Filed.{filed}
 use Rattle.rules.proofs.Live.{while-live}

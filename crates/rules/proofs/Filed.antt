@@ -1,16 +1,16 @@
 -- Every challenged run and every session has what an answered VECTOR of the history brought for its own IMPI: by the cases of a step, since only
 -- VECTOR fills a run, RESPONSE makes a session of its own run alone, and START copies the settings of the student's own live session.
-use Prim.Native.Nat.{ℕ, suc, _+_, _<_, _≤_}
+use Prim.Native.Nat.{ℕ, _+_, _<_}
 use native.Mathlib.Omega.{arith}
 use mathlib.Core.Path.{_≡_, refl, sym, ap, subst, _∙_}
-use mathlib.Core.Logic.{_≢_, _⊎_, inl, inr, ⊎-elim}
-use mathlib.Core.Bool.{Bool, true, false, not, _&&_, true≢false}
+use mathlib.Core.Logic.{_≢_, _⊎_, ⊎-elim}
+use mathlib.Core.Bool.{Bool, true, false, true≢false}
 use mathlib.Core.List.{List, [], _∷_, _++_, append-assoc, append-nil}
-use lib.Dec.{eqb, ltb}
-use lib.ListN.{length, getD, set, replicate}
-use borrow.Author.Tests.{ltb-true, ltb-false, eqb-true, eqb-false, eq-eqb, ne-eqb}
+use lib.Dec.{eqb}
+use lib.ListN.{getD, set}
+use borrow.Author.Tests.{ltb-true, eqb-true, eqb-false, eq-eqb}
 use Rattle.flow.specs.Choice.{pick}
-use Rattle.flow.specs.Result.{Result, refused, ok, mapR}
+use Rattle.flow.specs.Result.{Result, ok, mapR}
 use Rattle.flow.specs.Reply.{replyOf}
 use Rattle.flow.specs.Search.{first}
 use Rattle.flow.specs.declared.Found.{Found}
@@ -25,7 +25,7 @@ use Rattle.line.specs.Ranges.{BARE}
 use Rattle.line.specs.Text.{between}
 use Rattle.settings.specs.Layout.{BEFORE}
 use Rattle.event.specs.declared.Event.{Event}
-use Rattle.event.specs.declared.Event.the-variants.{Start, Vector, Response, Abort, Key, Bad}
+use Rattle.event.specs.declared.Event.the-variants.{Start, Vector, Response, Key}
 use Rattle.event.specs.Layout.{eventOf as decoded}
 use Rattle.event.specs.Ranged.{InRange}
 use Rattle.event.proofs.Ranges.{in-range}
@@ -42,7 +42,7 @@ use Rattle.shelves.specs.declared.Policy.{Policy}
 use Rattle.tables.specs.Tables.{RUNS, SESSIONS}
 use Rattle.tables.specs.State.{runAt, sessionAt, offeredAt, offeredTo, started, filled, ended, established}
 use Rattle.tables.specs.declared.State.{State}
-use Rattle.answer.specs.Answer.{Answer, Keyed, keyed, made}
+use Rattle.answer.specs.Answer.{Keyed, keyed, made}
 use Rattle.outcome.specs.Outcome.{Done, answered, octetsOf as answerOctets, stateOf}
 use Rattle.rules.specs.Opening.{fresh}
 use Rattle.rules.specs.Start.{opens}
@@ -50,12 +50,12 @@ use Rattle.rules.specs.Vector.{noCopy, chosen, challenges}
 use Rattle.rules.specs.Response.{expiryOf}
 use Rattle.rules.specs.Key.{isNamed, keyFor, wanted}
 use Rattle.rules.specs.History.{Input, decided, next, output, after}
-use Rattle.rules.specs.Said.{Opened, answerOf, Answers, number}
+use Rattle.rules.specs.Said.{Opened, answerOf, number}
 use Rattle.rules.specs.Numbers.{given, runIn}
 use Rattle.rules.specs.Late.{timeOf, eventIn}
-use Rattle.rules.specs.Filed.{nafAsked, btidAsked, applicationAsked, policyIn, keyedFor, Brings, brings, Began, Kept, Settled, gave, kept, Came, Made, Filed, FiledUnderItsOwnName}
+use Rattle.rules.specs.Filed.{nafAsked, btidAsked, applicationAsked, keyedFor, Brings, brings, Began, Kept, Settled, gave, kept, Came, Made, FiledUnderItsOwnName}
 use Rattle.rules.proofs.Tables.{passed, put-all}
-use Rattle.rules.proofs.Steps.{Open, Did, refuses, starts, vectors, rights, wrongs, aborts, keys, policy, did}
+use Rattle.rules.proofs.Steps.{Did, refuses, starts, vectors, rights, wrongs, aborts, keys, policy, did}
 use Rattle.rules.proofs.Sound.{after-append, opened-fresh, getD-none}
 
 -- ---- a longer history has what a shorter one has

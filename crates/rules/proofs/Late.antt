@@ -1,23 +1,22 @@
 -- A row's number and start are set by START alone and cleared at the run's end, and a number is given once. So what is true of the rows of a
 -- number, that there are none or that they are old, stays true; and then no search finds an open run of it.
-use Prim.Native.Nat.{ℕ, zero, suc, _+_, _<_, _≤_}
+use Prim.Native.Nat.{ℕ, _+_, _<_, _≤_}
 use native.Mathlib.Omega.{arith}
-use mathlib.Core.Path.{_≡_, refl, sym, ap, subst, _∙_}
-use mathlib.Core.Logic.{_≢_, _⊎_, inl, inr, ⊎-elim}
-use mathlib.Core.Bool.{Bool, true, false, not, _&&_, and-false}
+use mathlib.Core.Path.{_≡_, refl, sym, ap, _∙_}
+use mathlib.Core.Logic.{_≢_, _⊎_, ⊎-elim}
+use mathlib.Core.Bool.{Bool, true, false, not, and-false}
 use mathlib.Core.List.{List, [], _∷_}
 use lib.Dec.{eqb, ltb}
 use lib.ListN.{length, getD, set}
 use lib.Seq.{getD-set-same, getD-set-other}
 use borrow.Author.Tests.{le-ltb, ltb-false, eqb-true, eqb-false}
-use Rattle.flow.specs.Result.{Result, refused, ok, mapR, _>>=_, _>>_, refuse, need}
+use Rattle.flow.specs.Result.{Result, refused, mapR, _>>=_, _>>_, refuse, need}
 use Rattle.flow.specs.Reply.{replyOf}
 use Rattle.flow.specs.Search.{first}
 use Rattle.flow.specs.declared.Found.{Found}
-use Rattle.flow.specs.declared.Found.the-variants.{At, Nothing}
+use Rattle.flow.specs.declared.Found.the-variants.{Nothing}
 use Rattle.flow.proofs.Choices.{split}
 use Rattle.flow.proofs.Chains.{passes-set}
-use Rattle.octets.proofs.Laws.{sides}
 use Rattle.event.specs.declared.Event.{Event}
 use Rattle.event.specs.declared.Event.the-variants.{Start, Vector, Response, Abort, Key, Bad}
 use Rattle.records.specs.Time.{LAPSE}
@@ -34,14 +33,14 @@ use Rattle.rules.specs.Vector.{vectorRule, challenges}
 use Rattle.rules.specs.Response.{responseRule, abortRule}
 use Rattle.rules.specs.Server.{rule, stepOf}
 use Rattle.rules.specs.History.{eventOf, Input, decided, next, output, after}
-use Rattle.rules.specs.Said.{Opened, number}
+use Rattle.rules.specs.Said.{number}
 use Rattle.rules.specs.Numbers.{runIn, given}
-use Rattle.rules.specs.Late.{timeOf, runNamed, runEnded, eventIn, staleRule, Late, EndedStaysEnded, Lapses, LapsedStaysLapsed, Untouched, TheIncident}
+use Rattle.rules.specs.Late.{timeOf, runNamed, runEnded, eventIn, staleRule, Late, EndedStaysEnded, LapsedStaysLapsed, TheIncident}
 use Rattle.rules.proofs.Tables.{put-all, none-found}
 use Rattle.rules.proofs.Steps.{Open, nonzero, Did, refuses, starts, vectors, rights, wrongs, aborts, keys, policy, did}
-use Rattle.rules.proofs.Sound.{through, out-refused, Sound, sound-step, sound-opened, sound-after}
+use Rattle.rules.proofs.Sound.{through, Sound, sound-step, sound-opened, sound-after}
 use Rattle.rules.proofs.Exact.{silent}
-use Rattle.rules.proofs.Numbers.{Quiet, Gives, gives-step, last-step}
+use Rattle.rules.proofs.Numbers.{gives-step, last-step}
 
 -- ---- what is true of the rows of the number n stays true
 

@@ -1,16 +1,15 @@
 -- The search for a B-TID finds live rows alone, and in a history it finds the only one; and a session is put over the student's own row, or over
 -- one that is no longer live.
-use Prim.Native.Nat.{ℕ, _+_, _<_, _≤_}
+use Prim.Native.Nat.{ℕ, _<_, _≤_}
 use native.Mathlib.Omega.{arith}
 use mathlib.Core.Path.{_≡_, refl, sym, ap, subst, _∙_}
 use mathlib.Core.Logic.{_≢_, _⊎_, inl, inr, ⊎-elim}
-use mathlib.Core.Bool.{Bool, true, false, not, _&&_, true≢false}
+use mathlib.Core.Bool.{true, false, true≢false}
 use mathlib.Core.List.{List}
-use lib.Dec.{ltb}
 use lib.ListN.{length, getD, set, List·getD-eq-default}
 use lib.Seq.{getD-set-same}
-use borrow.Author.Tests.{ltb-true, le-ltb}
-use Rattle.flow.specs.Result.{Result, refused, ok, mapR, _>>=_, _>>_, refuse, need}
+use borrow.Author.Tests.{ltb-true}
+use Rattle.flow.specs.Result.{Result, ok, mapR}
 use Rattle.flow.specs.Search.{first}
 use Rattle.flow.specs.declared.Found.{Found}
 use Rattle.flow.specs.declared.Found.the-variants.{At, Nothing}
@@ -20,7 +19,6 @@ use Rattle.octets.proofs.Laws.{same-refl, sides}
 use Rattle.names.specs.Name.{octetsOf}
 use Rattle.line.specs.Text.{between}
 use Rattle.event.specs.declared.Event.{Event}
-use Rattle.event.specs.declared.Event.the-variants.{Key}
 use Rattle.base64.specs.Btid.{btid}
 use Rattle.records.specs.Time.{moment}
 use Rattle.records.specs.Rows.{isLive, noSession, sessionOf}
@@ -28,7 +26,7 @@ use Rattle.records.specs.declared.Session.{Session}
 use Rattle.shelves.specs.declared.Policy.{Policy}
 use Rattle.tables.specs.State.{runAt, sessionAt, started, filled, ended, established}
 use Rattle.tables.specs.declared.State.{State}
-use Rattle.answer.specs.Answer.{Answer, Keyed, keyed, made}
+use Rattle.answer.specs.Answer.{Keyed, keyed, made}
 use Rattle.outcome.specs.Outcome.{Done, answered, stateOf}
 use Rattle.rules.specs.Start.{opens}
 use Rattle.rules.specs.Vector.{challenges}
@@ -36,16 +34,16 @@ use Rattle.rules.specs.Response.{expiryOf}
 use Rattle.rules.specs.Key.{isNamed, wanted, lacks, grants, keyRule, keyFor}
 use Rattle.rules.specs.Server.{rule}
 use Rattle.rules.specs.History.{Input, decided, next, after}
-use Rattle.rules.specs.Said.{Opened, answerOf, Answers}
+use Rattle.rules.specs.Said.{Opened, answerOf}
 use Rattle.rules.specs.Late.{timeOf, eventIn}
 use Rattle.rules.specs.Apart.{AllOctets}
-use Rattle.rules.specs.Filed.{btidAsked, policyIn, keyedFor}
-use Rattle.rules.specs.Live.{KeyOnlyWhileLive, Asks, KeyWhileLive, Replaced, SessionsStand, Stands, AnsweredSessionsStand}
+use Rattle.rules.specs.Filed.{btidAsked}
+use Rattle.rules.specs.Live.{KeyOnlyWhileLive, KeyWhileLive, SessionsStand, Stands, AnsweredSessionsStand}
 use Rattle.rules.proofs.Tables.{passed, missed, put-inside}
-use Rattle.rules.proofs.Steps.{Open, Did, refuses, starts, vectors, rights, wrongs, aborts, keys, policy, did}
-use Rattle.rules.proofs.Sound.{in-front, Sound, sound-opened, sound-after}
+use Rattle.rules.proofs.Steps.{Did, refuses, starts, vectors, rights, wrongs, aborts, keys, policy, did}
+use Rattle.rules.proofs.Sound.{in-front, sound-opened, sound-after}
 use Rattle.rules.proofs.Apart.{Place, own, free, placed}
-use Rattle.rules.proofs.Filed.{keyed-as, is-named, About, about}
+use Rattle.rules.proofs.Filed.{keyed-as, is-named, about}
 use Rattle.rules.proofs.Named.{btids-distinct}
 
 -- ---- never at or after expiry

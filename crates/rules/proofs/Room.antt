@@ -2,45 +2,41 @@
 -- younger every row is free, and the search for a free row finds one.
 use Prim.Native.Nat.{ℕ, _+_, _<_, _≤_}
 use native.Mathlib.Omega.{arith}
-use mathlib.Core.Path.{_≡_, refl, sym, ap, subst, _∙_}
-use mathlib.Core.Logic.{_≢_, _⊎_, inl, inr, ⊎-elim}
-use mathlib.Core.Bool.{Bool, true, false, not, _&&_, and-false, true≢false}
+use mathlib.Core.Path.{_≡_, refl, sym, ap, _∙_}
+use mathlib.Core.Logic.{_≢_}
+use mathlib.Core.Bool.{true, false, not, and-false, true≢false}
 use mathlib.Core.List.{List, [], _∷_, _++_}
 use lib.Dec.{eqb, ltb}
-use lib.ListN.{length, getD, set}
+use lib.ListN.{getD, set}
 use borrow.Author.Tests.{le-ltb, lt-ltb, not-false}
-use Rattle.flow.specs.Result.{Result, refused, ok, mapR, _>>=_, _>>_, refuse, need}
+use Rattle.flow.specs.Result.{Result, mapR, _>>=_, _>>_, refuse, need}
 use Rattle.flow.specs.Reply.{replyOf}
 use Rattle.flow.specs.Search.{first, orElse}
 use Rattle.flow.specs.declared.Found.{Found}
 use Rattle.flow.specs.declared.Found.the-variants.{At, Nothing}
-use Rattle.flow.proofs.Chains.{passes-set, passes-above}
-use Rattle.octets.specs.Octets.{same}
 use Rattle.octets.proofs.Laws.{same-refl}
 use Rattle.names.specs.Name.{octetsOf}
 use Rattle.event.specs.declared.Event.{Event}
-use Rattle.event.specs.declared.Event.the-variants.{Start, Vector, Response, Abort, Key, Bad}
+use Rattle.event.specs.declared.Event.the-variants.{Start}
 use Rattle.records.specs.Time.{LAPSE}
-use Rattle.records.specs.Rows.{isOpen, isLive, isOwn, noRun, noSession, startedRun, filledRun}
+use Rattle.records.specs.Rows.{isOpen, isLive, isOwn, noRun, noSession, filledRun}
 use Rattle.records.specs.declared.Run.{Run}
 use Rattle.records.specs.declared.Session.{Session}
 use Rattle.shelves.specs.declared.Policy.{Policy}
-use Rattle.tables.specs.Tables.{RUNS, SESSIONS, isFree, isOver, placeFor}
+use Rattle.tables.specs.Tables.{SESSIONS, isFree, isOver, placeFor}
 use Rattle.tables.specs.State.{runAt, sessionAt, offeredTo, started, filled, ended, established}
 use Rattle.tables.specs.declared.State.{State}
-use Rattle.answer.specs.Answer.{ROOM}
 use Rattle.outcome.specs.Outcome.{Done, answered, octetsOf as answerOctets, stateOf}
-use Rattle.outcome.proofs.Laws.{passes-below}
 use Rattle.rules.specs.Start.{LAST, opens, startRule}
 use Rattle.rules.specs.Vector.{challenges}
-use Rattle.rules.specs.Server.{rule, stepOf}
-use Rattle.rules.specs.History.{eventOf, Input, decided, next, output, after}
-use Rattle.rules.specs.Said.{Opened, number}
+use Rattle.rules.specs.Server.{rule}
+use Rattle.rules.specs.History.{Input, decided, next, output, after}
+use Rattle.rules.specs.Said.{number}
 use Rattle.rules.specs.Numbers.{given, runIn, numbers}
 use Rattle.rules.specs.Late.{timeOf, eventIn}
-use Rattle.rules.specs.Room.{RoomComesBack, RunsFull, NoRunOnlyWhenFull, SessionsFull, NoSessionOnlyWhenFull, NoHistoryWearsOut}
+use Rattle.rules.specs.Room.{RoomComesBack, NoRunOnlyWhenFull, SessionsFull, NoSessionOnlyWhenFull, NoHistoryWearsOut}
 use Rattle.rules.proofs.Tables.{missed, put-all}
-use Rattle.rules.proofs.Steps.{Open, Why, why, other, no-run, no-session, Did, refuses, starts, vectors, rights, wrongs, aborts, keys, policy, did}
+use Rattle.rules.proofs.Steps.{Why, why, other, no-run, no-session, Did, refuses, starts, vectors, rights, wrongs, aborts, keys, policy, did}
 use Rattle.rules.proofs.Sound.{refused-out, in-front, Sound, sound-step, sound-opened, sound-after}
 
 -- ---- why an event is refused

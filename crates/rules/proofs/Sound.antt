@@ -1,38 +1,37 @@
 -- What holds of every state of a history, by the cases of a step: the tables keep their lengths, no run is younger than the recorded time, no
 -- run has a number that was not given, and no two have one number.
-use Prim.Native.Nat.{ℕ, zero, suc, _+_, _<_, _≤_}
+use Prim.Native.Nat.{ℕ, zero, suc, _+_, _≤_}
 use native.Mathlib.Omega.{arith}
 use mathlib.Core.Path.{_≡_, refl, sym, ap, subst, _∙_}
 use mathlib.Core.Logic.{_≢_}
 use mathlib.Core.Bool.{Bool, true, false}
 use mathlib.Core.List.{List, [], _∷_, _++_}
-use lib.ListN.{length, getD, set, replicate, length-set, length-replicate}
+use lib.ListN.{length, getD, replicate, length-set, length-replicate}
 use Rattle.flow.specs.Result.{Result, refused, ok, mapR, _>>_, refuse}
-use Rattle.flow.specs.Reply.{replyOf, bufferOf}
+use Rattle.flow.specs.Reply.{replyOf}
 use Rattle.flow.proofs.Chains.{passes-set, passes-above}
 use Rattle.event.specs.Layout.{eventOf as decoded}
 use Rattle.event.specs.declared.Event.{Event}
 use Rattle.names.specs.declared.Name.{Name}
 use Rattle.records.specs.Rows.{noRun, noSession, startedRun, filledRun}
 use Rattle.records.specs.declared.Run.{Run}
-use Rattle.records.specs.declared.Session.{Session}
 use Rattle.records.specs.declared.Settings.{Settings}
 use Rattle.records.specs.Time.{moment}
 use Rattle.shelves.specs.declared.Policy.{Policy}
 use Rattle.tables.specs.Tables.{RUNS, SESSIONS, putRun, putSession}
-use Rattle.tables.specs.State.{runAt, sessionAt, started, filled, ended, established}
+use Rattle.tables.specs.State.{runAt, started, filled, ended, established}
 use Rattle.tables.specs.declared.Sessions.{Sessions}
 use Rattle.tables.specs.declared.State.{State}
-use Rattle.answer.specs.Answer.{ROOM, Answer}
+use Rattle.answer.specs.Answer.{ROOM}
 use Rattle.outcome.specs.Outcome.{Done, answered, octetsOf, stateOf}
 use Rattle.rules.specs.Opening.{fresh, openRule}
 use Rattle.rules.specs.Start.{opens}
 use Rattle.rules.specs.Vector.{challenges}
 use Rattle.rules.specs.Server.{rule, stepOf}
 use Rattle.rules.specs.History.{eventOf, Input, decided, next, output, after}
-use Rattle.rules.specs.Said.{Opened, answerOf, Answers, number}
+use Rattle.rules.specs.Said.{Opened, number}
 use Rattle.rules.proofs.Tables.{put-all, put-pairs}
-use Rattle.rules.proofs.Steps.{Open, Did, refuses, starts, vectors, rights, wrongs, aborts, keys, policy, did}
+use Rattle.rules.proofs.Steps.{Did, refuses, starts, vectors, rights, wrongs, aborts, keys, policy, did}
 
 -- ---- a fact that each step keeps holds after every history
 

@@ -4,35 +4,32 @@ use Prim.Native.Nat.{ℕ, _+_, _<_, _≤_}
 use native.Mathlib.Omega.{arith}
 use mathlib.Core.Path.{_≡_, refl, sym, ap, _∙_}
 use mathlib.Core.Logic.{_≢_}
-use mathlib.Core.Bool.{Bool, true, false, not, _&&_}
+use mathlib.Core.Bool.{Bool, true, false, not}
 use mathlib.Core.List.{List}
 use lib.Dec.{eqb, ltb}
-use lib.ListN.{length, getD}
+use lib.ListN.{length}
 use borrow.Author.Tests.{eqb-true, eqb-false, ltb-true, ltb-false, not-true, not-false}
 use Rattle.flow.specs.Choice.{pick}
-use Rattle.flow.specs.Result.{Result, refused, ok, _>>=_, _>>_, refuse, need}
+use Rattle.flow.specs.Result.{Result, refused, _>>=_, _>>_, refuse, need}
 use Rattle.flow.specs.Search.{first}
 use Rattle.flow.specs.declared.Found.{Found}
 use Rattle.flow.specs.declared.Found.the-variants.{At, Nothing}
-use Rattle.octets.specs.Octets.{same}
 use Rattle.octets.proofs.Laws.{and-left, and-right, same-equal}
-use Rattle.names.specs.Name.{octetsOf, nameOf}
+use Rattle.names.specs.Name.{octetsOf}
 use Rattle.line.specs.Text.{between}
 use Rattle.event.specs.Layout.{eventOf as decoded}
 use Rattle.event.specs.declared.Event.{Event}
 use Rattle.event.specs.declared.Event.the-variants.{Start, Vector, Response, Abort, Key, Bad}
 use Rattle.records.specs.Time.{moment}
-use Rattle.records.specs.Rows.{isOpen, isRun, isLive, startedRun, filledRun, noRun, noSession, sessionOf}
-use Rattle.records.specs.declared.Run.{Run}
-use Rattle.records.specs.declared.Session.{Session}
+use Rattle.records.specs.Rows.{isOpen, isRun, noRun, sessionOf}
 use Rattle.brought.specs.Brought.{quintetOf, settingsOf}
 use Rattle.base64.specs.Btid.{btid}
 use Rattle.shelves.specs.declared.Policy.{Policy}
 use Rattle.shelves.specs.Shelf.{policyFor}
 use Rattle.tables.specs.Tables.{isFree, placeFor}
-use Rattle.tables.specs.State.{runAt, sessionAt, offeredTo, randSeen, started, filled, ended, established}
+use Rattle.tables.specs.State.{runAt, sessionAt, offeredTo, randSeen, ended, established}
 use Rattle.tables.specs.declared.State.{State}
-use Rattle.answer.specs.Answer.{ROOM, Answer, opened, challenge, made, aborted, wrong, keyed}
+use Rattle.answer.specs.Answer.{made, aborted, wrong, keyed}
 use Rattle.outcome.specs.Outcome.{Done, answered}
 use Rattle.rules.specs.Start.{LAST, opens, startRule}
 use Rattle.rules.specs.Vector.{noCopy, chosen, challenges, fills, vectorRule}

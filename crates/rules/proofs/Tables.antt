@@ -1,10 +1,10 @@
 -- Laws of tables, row by row: what a search found passed its test, what it did not find is nowhere, and a row that is put changes that row alone.
-use Prim.Native.Nat.{ℕ, zero, suc, _+_, _<_, _≤_, suc-le-suc}
+use Prim.Native.Nat.{ℕ, zero, suc, _+_, _<_, suc-le-suc}
 use native.Mathlib.Omega.{arith}
 use native.Mathlib.Nat.{not-suc-le-zero, le-of-suc-le-suc}
 use mathlib.Core.Path.{_≡_, refl, sym, ap, subst, _∙_}
 use mathlib.Core.Logic.{_≢_, _⊎_, inl, inr, ⊎-elim}
-use mathlib.Core.Bool.{Bool, true, false, true≢false}
+use mathlib.Core.Bool.{Bool, true, false}
 use mathlib.Core.List.{List, [], _∷_}
 use lib.Dec.{eqb}
 use lib.ListN.{length, getD, set}
@@ -12,8 +12,7 @@ use lib.Seq.{getD-set-same, getD-set-other}
 use borrow.Author.Tests.{eqb-true, eqb-false}
 use Rattle.flow.proofs.Choices.{split}
 use Rattle.flow.specs.Choice.{pick}
-use Rattle.flow.specs.Search.{firstFrom, first, orElse, found}
-use Rattle.flow.specs.declared.Found.{Found}
+use Rattle.flow.specs.Search.{firstFrom, first}
 use Rattle.flow.specs.declared.Found.the-variants.{At, Nothing}
 
 -- ---- what was found
