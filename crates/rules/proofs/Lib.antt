@@ -11,6 +11,7 @@ pub mod Filed
 pub mod Named
 pub mod Keys
 pub mod Live
+pub mod Served
 pub mod Demands
 pub mod Marked
 pub mod Examples

@@ -13,6 +13,7 @@ pub mod Room
 pub mod Apart
 pub mod Filed
 pub mod Live
+pub mod Served
 pub mod Keys
 pub mod Demand1
 pub mod Demand2
