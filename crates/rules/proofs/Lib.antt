@@ -3,3 +3,20 @@ pub mod Erased
 pub mod Secret
 pub mod Told
 mod SecretExample
+pub mod Tables
+pub mod Steps
+pub mod Sound
+pub mod Exact
+pub mod Sent
+pub mod Numbers
+pub mod Late
+pub mod Room
+pub mod Apart
+pub mod Filed
+pub mod Named
+pub mod Keys
+pub mod Live
+pub mod Served
+pub mod Demands
+pub mod Marked
+pub mod Examples

@@ -7,3 +7,16 @@ pub mod Server
 pub mod History
 pub mod Private
 pub mod Secrecy
+pub mod Said
+pub mod Exact
+pub mod Numbers
+pub mod Late
+pub mod Room
+pub mod Apart
+pub mod Filed
+pub mod Live
+pub mod Served
+pub mod Keys
+pub mod Demand1
+pub mod Demand2
+pub mod Marked
