@@ -1,3 +1,4 @@
+pub mod Refusals
 pub mod Wipe
 pub mod Erased
 pub mod Secret
