@@ -3,7 +3,8 @@
 use line::Num;
 use line::Span;
 use names::Name;
-use shelves::{Row, Shelf};
+use shelves::Row;
+use shelves::Shelf;
 ghost use mathlib.Core.Path.{_≡_};
 ghost use Prim.Native.Nat.{_≤_};
 ghost use Rattle.feed.specs.Cut.{cutIn, cutNumber, cutText};
@@ -232,7 +233,16 @@ pub fn read_opening(s: &[u8]) -> Opening
 }
 
 // A row as the shelf holds it: its names by value.
-fn row_of(s: &[u8], peer: usize, peerend: usize, fqdn: usize, fqdnend: usize, identity: bool, group: u8, required: u32) -> Row
+fn row_of(
+    s: &[u8],
+    peer: usize,
+    peerend: usize,
+    fqdn: usize,
+    fqdnend: usize,
+    identity: bool,
+    group: u8,
+    required: u32,
+) -> Row
     ensures { λ r. ⌜ r ≡ rowOf (now (s .entry)) peer peerend fqdn fqdnend identity group required ⌝ }
 {
     Row {
