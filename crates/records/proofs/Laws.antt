@@ -40,6 +40,9 @@ rand-long h vs g = length-mapped (λ (v : ℕ). v) (h .rand) 16 (g .1 .1 .1 .1 .
 pub session-rand-long : (h : Session) (vs : List Val) → Is (row Session·.the-type) h vs → length (h .rand) ≡ 16
 session-rand-long h vs g = length-mapped (λ (v : ℕ). v) (h .rand) 16 (g .1 .1 .1 .0 .1 .0 .1)
 
+pub session-name-long : (h : Session) (vs : List Val) → Is (row Session·.the-type) h vs → length (h .impi .octets) ≡ 64
+session-name-long h vs g = length-mapped (λ (v : ℕ). v) (h .impi .octets) 64 (g .1 .1 .1 .1 .0 .1 .1 .0 .1 .0 .1)
+
 pub session-ks-long : (h : Session) (vs : List Val) → Is (row Session·.the-type) h vs → length (h .ks) ≡ 32
 session-ks-long h vs g = length-mapped (λ (v : ℕ). v) (h .ks) 32 (g .1 .1 .0 .1 .0 .1)
 

@@ -44,10 +44,14 @@ isAbsent (present e) = false
 unfoldable pub wanted : ℕ → ℕ → Settings → Wanted
 wanted application group x = pick (eqb application 0) absent (entryFor application group x)
 
+-- the row requires an application, and it is absent with the row's group
+unfoldable pub lacks : Policy → Settings → Bool
+lacks w x = not (eqb (w .required) 0) && isAbsent (entryFor (w .required) (w .group) x)
+
 -- the live session x, for a shelf of that policy; the key is handed in
 unfoldable pub grants : State → Policy → ℕ → List ℕ → Session → Result Done
 grants s w application k x = do
-  refuse 16 (not (eqb (w .required) 0) && isAbsent (entryFor (w .required) (w .group) (x .settings)))
+  refuse 16 (lacks w (x .settings))
   answered (keyed (record {
     subject = x .impi; key = k; start = x .start .0; expiry = x .expiry .0; shown = w .identity;
     wanted = wanted application (w .group) (x .settings);
