@@ -37,13 +37,16 @@ stepOf s w body room = do
   refuse 2 (ltb room ROOM)
   rule s w body (decoded body)
 
+abbrev pub nowhere : Asked
+nowhere = record { peer = 0; peerend = 0; fqdn = 0; fqdnend = 0 }
+
 -- where a KEY names its peer and FQDN: the NAF_Id is the FQDN and five octets of Ua security protocol identifier
 unfoldable pub askedIn : Event → Asked
-askedIn Bad = record { peer = 0; peerend = 0; fqdn = 0; fqdnend = 0 }
-askedIn (Start t a z) = record { peer = 0; peerend = 0; fqdn = 0; fqdnend = 0 }
-askedIn (Vector t restart n a z rand autn x xz ck ik kind lifetime timestamp count entries) = record { peer = 0; peerend = 0; fqdn = 0; fqdnend = 0 }
-askedIn (Response t restart n a z) = record { peer = 0; peerend = 0; fqdn = 0; fqdnend = 0 }
-askedIn (Abort t restart n) = record { peer = 0; peerend = 0; fqdn = 0; fqdnend = 0 }
+askedIn Bad = nowhere
+askedIn (Start t a z) = nowhere
+askedIn (Vector t restart n a z rand autn x xz ck ik kind lifetime timestamp count entries) = nowhere
+askedIn (Response t restart n a z) = nowhere
+askedIn (Abort t restart n) = nowhere
 askedIn (Key t p pz b bz f fz application) = record { peer = p; peerend = pz; fqdn = f; fqdnend = fz - UA }
 
 abbrev pub askedOf : List ℕ → Asked

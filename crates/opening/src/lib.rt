@@ -1,0 +1,63 @@
+// The opening: document 01, "Opening, clock, tables". Values out of range return number 1 and the closed state.
+use names::Name;
+use records::{Lifetime, Moment, Run, Session};
+use tables::{Runs, Sessions, State};
+ghost use mathlib.Core.Path.{_≡_};
+ghost use Rattle.rules.specs.Opening.{closed, fresh, openRule};
+ghost use Rattle.opening.specs.Opening.{openingOf};
+
+// What an opening hands back: 0 and the state, or 1 and the closed state.
+#[repr(C)]
+pub struct Opening {
+    pub no: u32,
+    pub state: State,
+}
+
+// The state on which every event is refused with 1.
+pub fn closed() -> State
+    ensures { λ r. ⌜ r ≡ closed ⌝ }
+{
+    let run = Run::none();
+    let session = Session::none();
+    let name = Name::none();
+    State {
+        ready: false,
+        domain: name,
+        restart: 0,
+        lifetime: Lifetime(0),
+        clock: Moment(0),
+        last: 0,
+        runs: Runs { rows: [run; 32] },
+        sessions: Sessions {
+            rows: [session; 64],
+        },
+    }
+}
+
+pub fn open(domain: &[u8], restart: u64, lifetime: u64) -> Opening
+    ensures { λ r. ⌜ r ≡ openingOf (openRule (now (domain .entry)) restart lifetime) ⌝ }
+{
+    let mut state = closed();
+    if domain.len() == 0 {
+        return Opening { no: 1, state: state };
+    }
+    if 64 < domain.len() {
+        return Opening { no: 1, state: state };
+    }
+    if line::WORD < restart {
+        return Opening { no: 1, state: state };
+    }
+    if lifetime < line::LIFETIME_LEAST {
+        return Opening { no: 1, state: state };
+    }
+    if line::LIFETIME_MOST < lifetime {
+        return Opening { no: 1, state: state };
+    }
+    let name = Name::of(domain);
+    let usual = Lifetime(lifetime as u32);
+    state.ready = true;
+    state.domain = name;
+    state.restart = restart;
+    state.lifetime = usual;
+    Opening { no: 0, state: state }
+}

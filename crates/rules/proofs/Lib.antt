@@ -1,0 +1,5 @@
+pub mod Wipe
+pub mod Erased
+pub mod Secret
+pub mod Told
+mod SecretExample
