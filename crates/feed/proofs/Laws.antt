@@ -1,20 +1,26 @@
 -- How a proof follows the readers of the input: the ruleset `arriving` closes a `returns`.
 use Prim.Native.Nat.{ℕ, zero, suc, _+_, _-_, _≤_}
 use native.Mathlib.Numerals.{sub-one}
-use mathlib.Core.Path.{_≡_, refl, sym, ap, _∙_}
+use native.Mathlib.Omega.{arith}
+use mathlib.Core.Path.{_≡_, refl, sym, ap, ap₂, _∙_}
 use mathlib.Core.Bool.{Bool, true, false}
 use mathlib.Core.List.{List}
 use lib.ListN.{length, getD}
 use lib.Dec.{ltb}
 use Rattle.flow.specs.Choice.{pick}
-use Rattle.line.specs.Number.{numberAt}
+use Rattle.line.specs.Number.{numberAt, After}
+use Rattle.line.specs.Text.{textAt, Inside}
 use Rattle.line.specs.declared.Num.{Num}
 use Rattle.line.specs.declared.Num.the-variants.{Value}
-use Rattle.line.proofs.Reading.{reading}
+use Rattle.line.specs.declared.Span.the-variants.{At}
+use Rattle.line.proofs.Reading.{reading, span-back}
 use Rattle.line.proofs.Numbers.{number-most}
+use Rattle.line.proofs.Texts.{text-inside, text-after}
 use Rattle.shelves.specs.declared.Row.{Row}
-use Rattle.feed.specs.Cut.{cutIn}
+use Rattle.feed.specs.Cut.{cutIn, cutText}
 use Rattle.feed.specs.Opening.{rowAt, withRow, rowsAt, withRows}
+use Rattle.feed.specs.Frame.{BODY, frameStopped, frameAt}
+use Rattle.feed.specs.declared.Frame.the-variants.{Body}
 use Rattle.feed.specs.declared.Placed.{Placed}
 use Rattle.feed.specs.declared.RowRead.{RowRead}
 use Rattle.feed.specs.declared.RowRead.the-variants.{At as RowAt, More as RowMore, Bad as RowBad}
@@ -80,3 +86,25 @@ pub read-most : (s : List ℕ) (at max v next : ℕ) (r : Num) → r ≡ numberA
 read-most s at max v next r e f = number-most s at max v next (sym e ∙ f)
 
 pub ruleset arriving = (by-told, same-place, reading, cut-none, cut-some, by-row, by-row-more, by-row-bad, by-rows, by-rows-more, by-rows-bad, rows-none, rows-some)
+
+-- ---- what was read lies inside the input
+
+no-body : (cut : Bool) (start end : ℕ) → frameStopped cut ≡ Body start end → ⊥
+unfolding pick
+no-body true start end e = let z : _≡_ {A = ℕ} 0 1 = cc in omega arith
+no-body false start end e = let z : _≡_ {A = ℕ} 0 1 = cc in omega arith
+
+-- a body, and the length before it
+pub record Framed (s : List ℕ) (at start end : ℕ) : Type 0 where
+  pub body : Inside s 1 BODY start end
+  pub after : After s at end
+
+pub framed : (s : List ℕ) (at start end : ℕ) → frameAt s at ≡ Body start end → Framed s at start end
+unfolding frameAt
+framed s at start end e =
+    let r = span-back (Body start end) (frameStopped (cutText s at 1 BODY)) (no-body (cutText s at 1 BODY) start end) Body (textAt s at 1 BODY) e in
+    let f = r .rest in
+    let p : r .start ≡ start = cc in
+    let q : r .end ≡ end = cc in
+    let t : textAt s at 1 BODY ≡ At start end = r .read ∙ ap₂ (λ (a z : ℕ). At a z) p q in
+    record { body = text-inside s at 1 BODY start end t; after = text-after s at 1 BODY start end t }

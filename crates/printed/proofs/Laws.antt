@@ -14,7 +14,7 @@ use Rattle.flow.specs.Choice.{pick}
 use Rattle.flow.specs.Front.{_▹_, front, Put}
 use Rattle.flow.proofs.Choices.{by-eq, by-ne, pick-all}
 use Rattle.flow.proofs.Fronts.{fields-length, fields-assoc, then-put, front-none}
-use Rattle.printed.specs.Printed.{digit, decimalIn, decimal, pair, hex, dash, shown}
+use Rattle.printed.specs.Printed.{digit, decimalIn, decimal, pair, hex, dash, shown, lineOf}
 
 -- ---- decimal
 
@@ -153,3 +153,9 @@ module _ (answer : List ℕ) (at end : ℕ) (old new : List ℕ) where
 
   pub hex-put : (length answer ≡ 0 → ⊥) → Put (hex answer) at end old new → Put (shown answer) at end old new
   hex-put h p = put-is _ _ at end old new (by-ne _ _ _ _ _ h refl) p
+
+-- how long a line may be
+pub line-long : (place number : ℕ) (answer : List ℕ) → length (lineOf place number answer) ≤ 44 + 2 * length answer
+line-long place number answer =
+    rw (fields-length, fields-length, fields-length, fields-length, fields-length)
+    (omega (arith, decimal-twenty place, decimal-twenty number, shown-room answer))
