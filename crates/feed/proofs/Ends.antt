@@ -1,0 +1,87 @@
+-- What is read of the opening part ends inside the input: each end of a chain of reads keeps what its reads say.
+use Prim.Native.Nat.{ℕ, zero, suc, _+_, _≤_}
+use native.Mathlib.Omega.{arith}
+use mathlib.Core.Path.{_≡_, subst}
+use mathlib.Core.Bool.{Bool}
+use mathlib.Core.List.{List}
+use lib.ListN.{length, getD}
+use lib.Dec.{ltb}
+use Rattle.flow.specs.Choice.{pick}
+use Rattle.flow.proofs.Choices.{pick-all}
+use Rattle.line.specs.Ranges.{WORD, NAME, LIFETIME-LEAST, LIFETIME-MOST, GROUP}
+use Rattle.line.specs.Number.{numberAt}
+use Rattle.line.specs.Name.{nameAt}
+use Rattle.line.proofs.Reading.{num-all, span-all}
+use Rattle.line.proofs.Numbers.{number-after}
+use Rattle.shelves.specs.Shelf.{ROWS}
+use Rattle.feed.specs.Cut.{cutNumber}
+use Rattle.feed.specs.Opening.{cutName, rowStopped, stopped, rowAt, withRow, rowsAt, withRows, openingOf}
+use Rattle.feed.specs.declared.Opening.{Opening}
+use Rattle.feed.specs.declared.Opening.the-variants.{Whole, More, Bad}
+use Rattle.feed.specs.declared.RowRead.{RowRead}
+use Rattle.feed.specs.declared.RowRead.the-variants.{At as RowAt, More as RowMore, Bad as RowBad}
+use Rattle.feed.specs.declared.Rows.{Rows}
+use Rattle.feed.specs.declared.Rows.the-variants.{End, More as RowsMore, Bad as RowsBad}
+
+abbrev RowEnds : List ℕ → RowRead → Type 0
+RowEnds s (RowAt peer peerEnd fqdn fqdnEnd identity group required end) = end ≤ length s
+RowEnds s RowMore = Unit {0}
+RowEnds s RowBad = Unit {0}
+
+abbrev RowsEnd : List ℕ → Rows → Type 0
+RowsEnd s (End end) = end ≤ length s
+RowsEnd s RowsMore = Unit {0}
+RowsEnd s RowsBad = Unit {0}
+
+abbrev Ends : List ℕ → Opening → Type 0
+Ends s (Whole domain domainEnd restart lifetime rows at end) = end ≤ length s
+Ends s More = Unit {0}
+Ends s Bad = Unit {0}
+
+row-ends : (s : List ℕ) (at : ℕ) → RowEnds s (rowAt s at)
+row-ends s at =
+    let P = RowEnds s in
+    span-all P (rowStopped (cutName s at)) (nameAt s at) _ (none (cutName s at)) λ peer a h.
+    span-all P (rowStopped (cutName s a)) (nameAt s a) _ (none (cutName s a)) λ fqdn b i.
+    pick-all P (ltb b (length s)) _ _
+    (λ _. pick-all P (ltb 1 (getD s b 0)) _ _ (λ _. tt) λ _.
+    num-all P (rowStopped (cutNumber s (b + 1))) (numberAt s (b + 1) GROUP) _ (none (cutNumber s (b + 1))) λ group c j.
+    num-all P (rowStopped (cutNumber s c)) (numberAt s c WORD) _ (none (cutNumber s c)) λ required end k.
+    number-after s c WORD required end k .inside)
+    (λ _. tt)
+  where
+    none : (cut : Bool) → RowEnds s (rowStopped cut)
+    none cut = pick-all (RowEnds s) cut RowMore RowBad (λ _. tt) (λ _. tt)
+
+rows-end : (n : ℕ) (s : List ℕ) (at : ℕ) → at ≤ length s → RowsEnd s (rowsAt n s at)
+unfolding rowsAt withRow
+rows-end zero s at h = h
+rows-end (suc n) s at h = go (rowAt s at) (row-ends s at) (rows-end n s)
+  where
+    go : (x : RowRead) → RowEnds s x → ((next : ℕ) → next ≤ length s → RowsEnd s (rowsAt n s next))
+        → RowsEnd s (withRow RowsMore RowsBad x (λ peer peerEnd fqdn fqdnEnd identity group required end. rowsAt n s end))
+    go (RowAt peer peerEnd fqdn fqdnEnd identity group required end) e f = f end e
+    go RowMore e f = tt
+    go RowBad e f = tt
+
+opening-ends : (s : List ℕ) → Ends s (openingOf s)
+unfolding openingOf withRows
+opening-ends s =
+    let P = Ends s in
+    span-all P (stopped (cutName s 0)) (nameAt s 0) _ (none (cutName s 0)) λ domain a h.
+    num-all P (stopped (cutNumber s a)) (numberAt s a WORD) _ (none (cutNumber s a)) λ restart b i.
+    num-all P (stopped (cutNumber s b)) (numberAt s b LIFETIME-MOST) _ (none (cutNumber s b)) λ lifetime c j.
+    pick-all P (ltb lifetime LIFETIME-LEAST) _ _ (λ _. tt) λ _.
+    num-all P (stopped (cutNumber s c)) (numberAt s c ROWS) _ (none (cutNumber s c)) λ rows at k.
+    go domain a restart lifetime rows at (rowsAt rows s at) (rows-end rows s at (number-after s c ROWS rows at k .inside))
+  where
+    none : (cut : Bool) → Ends s (stopped cut)
+    none cut = pick-all (Ends s) cut More Bad (λ _. tt) (λ _. tt)
+
+    go : (domain a restart lifetime rows at : ℕ) (x : Rows) → RowsEnd s x → Ends s (withRows More Bad x (λ end. Whole domain a restart lifetime rows at end))
+    go domain a restart lifetime rows at (End end) e = e
+    go domain a restart lifetime rows at RowsMore e = tt
+    go domain a restart lifetime rows at RowsBad e = tt
+
+pub whole-ends : (s : List ℕ) (domain domainEnd restart lifetime rows at end : ℕ) → openingOf s ≡ Whole domain domainEnd restart lifetime rows at end → end ≤ length s
+whole-ends s domain domainEnd restart lifetime rows at end e = subst (Ends s) e (opening-ends s)

@@ -1,0 +1,4 @@
+pub mod Cut
+pub mod Opening
+pub mod Rows
+pub mod Frame
