@@ -48,7 +48,11 @@ longest wrong h = omega arith
 
 -- met by a key, a time and an expiry of six octets, an IMPI of 64 and a user name of 32
 pub meets : length (encodeOf (keyed (record {
-  subject = record { octets = replicate 64 0x61; len = 64 }; key = replicate 32 0; start = TIME; expiry = EXPIRY; shown = true;
+  subject = record { octets = replicate 64 0x61; len = 64 };
+  key = replicate 32 0;
+  start = TIME;
+  expiry = EXPIRY;
+  shown = true;
   wanted = present (record { application = 1; group = 0; flags = replicate 4 0; user = replicate 32 0x62; len = 32 });
 }))) ≡ LONGEST
 unfolding encodeOf identityOf wantedOf pick _▹_ encodeIn octetsOf

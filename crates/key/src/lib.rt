@@ -4,9 +4,12 @@ use flow::Found;
 use flow::Reply;
 use names::Name;
 use outcome::Outcome;
-use records::{Entry, Session, Settings};
+use records::Entry;
+use records::Session;
+use records::Settings;
 use shelves::Policy;
-use tables::{Sessions, State};
+use tables::Sessions;
+use tables::State;
 ghost use Prim.Native.Nat.{_+_, _≤_};
 ghost use mathlib.Core.Path.{_≡_};
 ghost use lib.ListN.{length, take};
@@ -51,8 +54,7 @@ pub fn is_named(session: Session, text: &[u8], domain: Name, time: u64) -> bool
         return false;
     }
     let rand = session.rand;
-    if starts(rand, text) {
-    } else {
+    if starts(rand, text) {} else {
         return false;
     }
     is_btid(rand, domain, text)
@@ -131,7 +133,14 @@ pub fn key_of(session: Session, naf: &[u8]) -> [u8; 32]
 }
 
 // What the shelf gets of the live session.
-pub fn grants(state: State, policy: Policy, application: u64, naf: &[u8], session: Session, out: &mut [u8]) -> Outcome
+pub fn grants(
+    state: State,
+    policy: Policy,
+    application: u64,
+    naf: &[u8],
+    session: Session,
+    out: &mut [u8],
+) -> Outcome
     requires { ⌜ (ROOM ≤ length (now out)) × (length (now naf) ≤ NAME + UA) ⌝ }
     ensures { λ r. ⌜ Met state (grants state policy application (keyFor (now (naf .entry)) session) session) (now (out .entry)) r (now (out .exit)) ⌝ }
 {
@@ -162,7 +171,15 @@ pub fn grants(state: State, policy: Policy, application: u64, naf: &[u8], sessio
     }
 }
 
-pub fn key(state: State, policy: Policy, time: u64, text: &[u8], naf: &[u8], application: u64, out: &mut [u8]) -> Outcome
+pub fn key(
+    state: State,
+    policy: Policy,
+    time: u64,
+    text: &[u8],
+    naf: &[u8],
+    application: u64,
+    out: &mut [u8],
+) -> Outcome
     requires { ⌜ (ROOM ≤ length (now out)) × (length (now naf) ≤ NAME + UA) ⌝ }
     ensures { λ r. ⌜ Met state (keyRule (keyFor (now (naf .entry))) state policy time (now (text .entry)) application) (now (out .entry)) r (now (out .exit)) ⌝ }
 {
@@ -173,8 +190,7 @@ pub fn key(state: State, policy: Policy, time: u64, text: &[u8], naf: &[u8], app
         };
     }
     let found = policy.found;
-    if found {
-    } else {
+    if found {} else {
         return Outcome {
             state: state,
             reply: Reply { no: 14, len: 0 },

@@ -48,7 +48,11 @@ fn shift(input: &mut [u8], from: usize, held: usize) -> usize
 
 // Whether the input so far is the front of an opening part.
 fn is_cut(input: &[u8]) -> bool {
-    if let Opening::More = feed::read_opening(input) { true } else { false }
+    if let Opening::More = feed::read_opening(input) {
+        true
+    } else {
+        false
+    }
 }
 
 // Reads until the opening part is whole or bad, or the input ends. Returns how much is held then.

@@ -1,7 +1,12 @@
 // The opening: document 01, "Opening, clock, tables". Values out of range return number 1 and the closed state.
 use names::Name;
-use records::{Lifetime, Moment, Run, Session};
-use tables::{Runs, Sessions, State};
+use records::Lifetime;
+use records::Moment;
+use records::Run;
+use records::Session;
+use tables::Runs;
+use tables::Sessions;
+use tables::State;
 ghost use mathlib.Core.Path.{_≡_};
 ghost use Rattle.rules.specs.Opening.{closed, fresh, openRule};
 ghost use Rattle.opening.specs.Opening.{openingOf};
@@ -39,19 +44,34 @@ pub fn open(domain: &[u8], restart: u64, lifetime: u64) -> Opening
 {
     let mut state = closed();
     if domain.len() == 0 {
-        return Opening { no: 1, state: state };
+        return Opening {
+            no: 1,
+            state: state,
+        };
     }
     if 64 < domain.len() {
-        return Opening { no: 1, state: state };
+        return Opening {
+            no: 1,
+            state: state,
+        };
     }
     if line::WORD < restart {
-        return Opening { no: 1, state: state };
+        return Opening {
+            no: 1,
+            state: state,
+        };
     }
     if lifetime < line::LIFETIME_LEAST {
-        return Opening { no: 1, state: state };
+        return Opening {
+            no: 1,
+            state: state,
+        };
     }
     if line::LIFETIME_MOST < lifetime {
-        return Opening { no: 1, state: state };
+        return Opening {
+            no: 1,
+            state: state,
+        };
     }
     let name = Name::of(domain);
     let usual = Lifetime(lifetime as u32);
@@ -59,5 +79,8 @@ pub fn open(domain: &[u8], restart: u64, lifetime: u64) -> Opening
     state.domain = name;
     state.restart = restart;
     state.lifetime = usual;
-    Opening { no: 0, state: state }
+    Opening {
+        no: 0,
+        state: state,
+    }
 }

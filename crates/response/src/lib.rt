@@ -2,7 +2,8 @@
 use flow::Found;
 use flow::Reply;
 use outcome::Outcome;
-use records::{Moment, Run};
+use records::Moment;
+use records::Run;
 use tables::State;
 ghost use Prim.Native.Nat.{_≤_};
 ghost use mathlib.Core.Path.{_≡_};
@@ -60,8 +61,7 @@ fn concludes(state: State, time: u64, i: usize, right: bool, row: Run, out: &mut
     ensures { λ r. ⌜ Met state (concludes state time i right row) (now (out .entry)) r (now (out .exit)) ⌝ }
 {
     let challenged = row.challenged;
-    if challenged {
-    } else {
+    if challenged {} else {
         return Outcome {
             state: state,
             reply: Reply { no: 12, len: 0 },
@@ -73,7 +73,14 @@ fn concludes(state: State, time: u64, i: usize, right: bool, row: Run, out: &mut
     fails(state, time, i, out)
 }
 
-pub fn response(state: State, time: u64, restart: u64, run: u64, res: &[u8], out: &mut [u8]) -> Outcome
+pub fn response(
+    state: State,
+    time: u64,
+    restart: u64,
+    run: u64,
+    res: &[u8],
+    out: &mut [u8],
+) -> Outcome
     requires { ⌜ (time ≤ TIME) × (ROOM ≤ length (now out)) ⌝ }
     ensures { λ r. ⌜ Met state (responseRule state time restart run (rightFor state time run (now (res .entry)))) (now (out .entry)) r (now (out .exit)) ⌝ }
 {

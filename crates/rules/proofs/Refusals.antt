@@ -36,9 +36,9 @@ by-kind =
     record {
       start = λ s t impi. line _ 4 refl _ _ (line _ 5 refl _ _ (search-line _ 6 refl _ _ λ i. tt));
       vector = λ s t restart n impi q kind given.
-        line _ 4 refl _ _ (line _ 7 refl _ _ (search-line _ 7 refl _ _ λ i. line _ 8 refl _ _ (line _ 9 refl _ _ (line _ 10 refl _ _ (line _ 11 refl _ _ tt)))));
+          line _ 4 refl _ _ (line _ 7 refl _ _ (search-line _ 7 refl _ _ λ i. line _ 8 refl _ _ (line _ 9 refl _ _ (line _ 10 refl _ _ (line _ 11 refl _ _ tt)))));
       response = λ s t restart n right.
-        line _ 4 refl _ _ (line _ 7 refl _ _ (search-line _ 7 refl _ _ λ i. line _ 12 refl _ _ (choice _ _ _ _ (search-line _ 13 refl _ _ λ j. tt) tt)));
+          line _ 4 refl _ _ (line _ 7 refl _ _ (search-line _ 7 refl _ _ λ i. line _ 12 refl _ _ (choice _ _ _ _ (search-line _ 13 refl _ _ λ j. tt) tt)));
       abort = λ s t restart n. line _ 4 refl _ _ (line _ 7 refl _ _ (search-line _ 7 refl _ _ λ i. tt));
       key = λ f s w t text application. line _ 4 refl _ _ (line _ 14 refl _ _ (search-line _ 15 refl _ _ λ j. line _ 16 refl _ _ tt));
     }

@@ -89,8 +89,7 @@ pub fn step(state: State, policy: Policy, body: &[u8], out: &mut [u8]) -> Outcom
     ensures { λ r. ⌜ Met state (stepOf state policy (now (body .entry)) (length (now (out .entry)))) (now (out .entry)) r (now (out .exit)) ⌝ }
 {
     let ready = state.ready;
-    if ready {
-    } else {
+    if ready {} else {
         return Outcome {
             state: state,
             reply: Reply { no: 1, len: 0 },
@@ -128,7 +127,17 @@ pub fn step(state: State, policy: Policy, body: &[u8], out: &mut [u8]) -> Outcom
         } => {
             let q = brought::quintet_of(body, rand, autn, xres, xres_end, ck, ik);
             let given = brought::settings_of(body, lifetime, timestamp, count, entries);
-            vector::vector(state, time, restart, run, &body[impi..impi_end], q, kind, given, out)
+            vector::vector(
+                state,
+                time,
+                restart,
+                run,
+                &body[impi..impi_end],
+                q,
+                kind,
+                given,
+                out,
+            )
         }
         Event::Response {
             time,

@@ -3,7 +3,8 @@ use flow::Found;
 use flow::Reply;
 use names::Name;
 use outcome::Outcome;
-use records::{Run, Settings};
+use records::Run;
+use records::Settings;
 use tables::State;
 ghost use Prim.Native.Nat.{_≤_};
 ghost use mathlib.Core.Path.{_≡_};
@@ -42,8 +43,7 @@ pub fn start(state: State, time: u64, impi: &[u8], out: &mut [u8]) -> Outcome
             reply: Reply { no: 4, len: 0 },
         };
     }
-    if state.last < LAST {
-    } else {
+    if state.last < LAST {} else {
         return Outcome {
             state: state,
             reply: Reply { no: 5, len: 0 },

@@ -1,7 +1,11 @@
 // The two tables and the state of the key server. Every event takes the state and hands the next one back, by value.
 use flow::Found;
 use names::Name;
-use records::{Lifetime, Moment, Run, Session, Settings};
+use records::Lifetime;
+use records::Moment;
+use records::Run;
+use records::Session;
+use records::Settings;
 ghost use mathlib.Core.Path.{_≡_};
 ghost use mathlib.Core.Bool.{not};
 ghost use lib.ListN.{getD};
@@ -12,6 +16,7 @@ ghost use Rattle.tables.specs.State.{offeredTo, randSeen, afterOf, start
 
 // At most so many open runs, and so many live sessions.
 const RUNS: usize = 32;
+
 const SESSIONS: usize = 64;
 
 #[repr(C)]

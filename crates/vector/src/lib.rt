@@ -3,7 +3,8 @@ use brought::Quintet;
 use flow::Found;
 use flow::Reply;
 use outcome::Outcome;
-use records::{Run, Settings};
+use records::Run;
+use records::Settings;
 use tables::State;
 ghost use Prim.Native.Nat.{_≤_};
 ghost use mathlib.Core.Path.{_≡_};
@@ -35,7 +36,15 @@ fn chosen(kind: u8, given: Settings, row: Run) -> Settings
 }
 
 // The run in row i gets its challenge.
-fn challenges(state: State, time: u64, i: usize, q: Quintet, settings: Settings, row: Run, out: &mut [u8]) -> Outcome
+fn challenges(
+    state: State,
+    time: u64,
+    i: usize,
+    q: Quintet,
+    settings: Settings,
+    row: Run,
+    out: &mut [u8],
+) -> Outcome
     requires { ⌜ ROOM ≤ length (now out) ⌝ }
     ensures { λ r. ⌜ Met state (challenges state time i q settings row) (now (out .entry)) r (now (out .exit)) ⌝ }
 {
@@ -76,8 +85,7 @@ fn fills(
         };
     }
     let own = row.impi;
-    if own.is(impi) {
-    } else {
+    if own.is(impi) {} else {
         return Outcome {
             state: state,
             reply: Reply { no: 9, len: 0 },

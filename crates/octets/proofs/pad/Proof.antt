@@ -34,11 +34,12 @@ loop-less c = omega arith
 loop-again : tie.Need-loop-again Inv-loop μ-loop
 loop-again c =
     let k = c .before .before in
-    let z = k .before .before .before .args in
-    (omega arith,
-    length-set (k .loop .out) (k .loop .i) _ ∙ k .loop .inv .1,
-    copy-more (padded (length (z .out .now)) (z .s .now)) (k .loop .out) (k .loop .i) _ (omega arith) (k .loop .inv .1 ∙ sym (length-padded _ _)) (k .loop .inv .2)
-    (c .at .ensures ∙ padded-at (length (z .out .now)) (k .loop .i) (z .s .now) (omega arith)))
+    let z = k .before .before .before .args in (
+      omega arith,
+      length-set (k .loop .out) (k .loop .i) _ ∙ k .loop .inv .1,
+      copy-more (padded (length (z .out .now)) (z .s .now)) (k .loop .out) (k .loop .i) _ (omega arith) (k .loop .inv .1 ∙ sym (length-padded _ _)) (k .loop .inv .2)
+          (c .at .ensures ∙ padded-at (length (z .out .now)) (k .loop .i) (z .s .now) (omega arith)),
+    )
 
 same-length : tie.Need-same-length Inv-loop μ-loop
 same-length c = c .before .loop .inv .1
