@@ -41,7 +41,14 @@ pub struct Batch {
 }
 
 // Answers one event, and writes its line at a place of the output.
-fn answer(state: State, shelf: Shelf, body: &[u8], place: u64, out: &mut [u8], at: usize) -> Answered
+fn answer(
+    state: State,
+    shelf: Shelf,
+    body: &[u8],
+    place: u64,
+    out: &mut [u8],
+    at: usize,
+) -> Answered
     requires { ⌜ at + LINE ≤ length (now out) ⌝ }
     ensures { λ r. ⌜ Told state shelf (now (body .entry)) place at r (now (out .entry)) (now (out .exit)) ⌝ }
 {
@@ -69,7 +76,14 @@ fn put_bad(out: &mut [u8], at: usize, place: u64) -> usize
 }
 
 // Answers the events that have arrived, as far as there is room for their lines.
-pub fn answer_all(state: State, shelf: Shelf, input: &[u8], from: usize, first: u64, out: &mut [u8]) -> Batch
+pub fn answer_all(
+    state: State,
+    shelf: Shelf,
+    input: &[u8],
+    from: usize,
+    first: u64,
+    out: &mut [u8],
+) -> Batch
     requires { ⌜ (from ≤ length (now input)) × (first + length (now input) < 2 ^ 64) ⌝ }
     ensures { λ r. ⌜ Served shelf (now (input .entry)) state from first r (now (out .entry)) (now (out .exit)) ⌝ }
 {

@@ -37,14 +37,14 @@ slice-aggregate-put-line : tie.Need-slice-aggregate-put-line
 slice-aggregate-put-line c = sym (length-take-le _ _ (reply-within _ _ _ _ _ (c .before .before .before .step .ensures) (search needs)))
 
 put-line-requires : tie.Need-put-line-requires
-put-line-requires c κs = 
+put-line-requires c κs =
     let k = reply-short _ _ _ _ _ (c .before .before .before .step .ensures) (search needs) refl in
     let out = c .before .before .before .before .before .before .before .before .before .args .out .now in
     let at = c .before .before .before .before .before .before .before .before .before .args .at in
     omega (arith, k, ap length (lent-end at out), length-drop at out)
 
 add-t18 : tie.Need-add-t18
-add-t18 c = 
+add-t18 c =
     let k = line-short _ _ _ _ _ (c .before .before .before .before .before .before .before .step .ensures) (search needs) refl _ _ _ _ (c .before .before .before .put-line .ensures) in
     omega (arith, k, c .before .before .before .before .before .before .before .before .before .before .before .before .before .pre, c .before .before .before .before .before .before .before .before .before .before .before .before .before .good)
 
@@ -52,7 +52,7 @@ same-length : tie.Need-same-length
 same-length c = search needs
 
 returns : tie.Need-returns
-returns c = 
+returns c =
     let m = met-done _ (c .before .before .before .before .before .before .before .before .before .before .before .before .before .args .shelf) _ _ _ _ _ _ (c .before .before .before .before .before .before .before .before .before .before .asked .ensures) (c .before .before .before .before .before .before .before .before .before .lookup .ensures) refl (c .before .before .before .before .before .before .before .step .ensures) in
     event-told _ _ _ _ _ _ _ _ m (search needs) refl _ _ _ (c .before .before .before .put-line .ensures)
 

@@ -28,18 +28,18 @@ enum-known-start : tie.Need-enum-known-start Inv-loop μ-loop
 enum-known-start c = search needs
 
 sub-answer : tie.Need-sub-answer Inv-loop μ-loop
-sub-answer c = 
+sub-answer c =
     let f = framed _ _ _ _ (sym (c .before .before .before .read-frame .ensures) ∙ c .before .start .given .1) in
     omega (arith, f .body .least)
 
 part-answer-start : tie.Need-part-answer-start Inv-loop μ-loop
-part-answer-start c = 
+part-answer-start c =
     let f = framed _ _ _ _ (sym (c .before .before .before .read-frame .ensures) ∙ c .before .start .given .1) in
     let h = f .body .inside in
     search needs
 
 part-answer-end : tie.Need-part-answer-end Inv-loop μ-loop
-part-answer-end c = 
+part-answer-end c =
     let f = framed _ _ _ _ (sym (c .before .before .before .read-frame .ensures) ∙ c .before .start .given .1) in
     let h = f .body .inside in
     search needs
@@ -48,12 +48,12 @@ answer-requires : tie.Need-answer-requires Inv-loop μ-loop
 answer-requires c κs = search needs
 
 add-place : tie.Need-add-place Inv-loop μ-loop
-add-place c = 
+add-place c =
     let f = framed _ _ _ _ (sym (c .before .before .before .before .before .before .before .before .before .read-frame .ensures) ∙ c .before .before .before .before .before .before .before .start .given .1) in
     omega (arith, c .before .before .before .before .before .before .before .before .before .before .before .loop .inv .far, f .after .later, f .after .inside, c .before .before .before .before .before .before .before .before .before .before .before .before .before .before .pre .1)
 
 loop-less : tie.Need-loop-less Inv-loop μ-loop
-loop-less c = 
+loop-less c =
     let f = framed _ _ _ _ (sym (c .before .before .before .before .before .before .before .before .before .read-frame .ensures) ∙ c .before .before .before .before .before .before .before .start .given .1) in
     omega (arith, f .after .later, f .after .inside)
 
