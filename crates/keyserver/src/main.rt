@@ -77,6 +77,22 @@ fn print_refused(place: u64, number: u32) {
     io::write_all(libc::STDOUT_FILENO, &line[..len]);
 }
 
+// Moves what is left to the front, and reads on. Returns how much is held then: 0 where the input has ended, and a cut event has its line.
+fn read_on(input: &mut [u8], from: usize, held: usize, place: u64) -> usize
+    requires { ⌜ (from ≤ held) × (held ≤ length (now input)) ⌝ }
+    ensures { λ r. ⌜ r ≤ length (now (input .entry)) ⌝ }
+{
+    let rest = shift(input, from, held);
+    let more = fill(input, rest);
+    if more == rest {
+        if 0 < rest {
+            print_refused(place, FORM);
+        }
+        return 0;
+    }
+    more
+}
+
 // Answers events until the input ends, or what stands there is no event.
 fn run(state: State, shelf: Shelf, input: &mut [u8], out: &mut [u8], from: usize, first: usize)
     requires { ⌜ (from ≤ first) × (first ≤ length (now input)) × (length (now input) ≤ 65536) ⌝ }
@@ -103,13 +119,9 @@ fn run(state: State, shelf: Shelf, input: &mut [u8], out: &mut [u8], from: usize
             Why::Bad => return,
             Why::Full => {}
             Why::More => {
-                let rest = shift(input, at, held);
+                held = read_on(input, at, held, place);
                 at = 0;
-                held = fill(input, rest);
-                if held == rest {
-                    if 0 < rest {
-                        print_refused(place, FORM);
-                    }
+                if held == 0 {
                     return;
                 }
             }
