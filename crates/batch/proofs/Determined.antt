@@ -9,7 +9,7 @@ use mathlib.Core.List.{List, []}
 use lib.Dec.{leb}
 use lib.ListN.{length}
 use borrow.Author.Tests.{leb-true, leb-false}
-use Rattle.flow.specs.Front.{_▹_, front, Wrote}
+use Rattle.flow.specs.Front.{_▹_, front}
 use Rattle.flow.proofs.Choices.{split}
 use Rattle.line.specs.Text.{between}
 use Rattle.shelves.specs.declared.Shelf.{Shelf}
