@@ -4,6 +4,7 @@ use mathlib.Core.Path.{_≡_}
 use mathlib.Core.List.{List, []}
 use lib.ListN.{length, take}
 use Rattle.flow.specs.Result.{Result, refused, ok, mapR}
+use Rattle.flow.specs.declared.Reply.{Reply}
 use Rattle.flow.specs.Front.{_▹_, Put, Wrote}
 use Rattle.line.specs.Text.{between}
 use Rattle.answer.specs.Answer.{ROOM}
@@ -16,7 +17,6 @@ use Rattle.feed.specs.declared.Frame.the-variants.{Body, More as FrameMore, Bad
 use Rattle.printed.specs.Printed.{lineOf}
 use Rattle.batch.specs.declared.Why.{Why}
 use Rattle.batch.specs.declared.Why.the-variants.{More, Full, Bad}
-use Rattle.batch.specs.declared.Answered.{Answered}
 use Rattle.batch.specs.declared.Batch.{Batch}
 
 -- the room that the longest line needs: two numbers of twenty digits, two blanks, 160 octets in hex, and the end of the line
@@ -42,11 +42,10 @@ eventLine place s shelf body = lineTold place (mapR octetsOf (doneOf s shelf bod
 abbrev pub badLine : ℕ → List ℕ
 badLine place = lineOf place 3 []
 
--- one event: the next state is r's, and its line stands from at up to r's end, no longer than there is room
-pub record Told (s : State) (shelf : Shelf) (body : List ℕ) (place at : ℕ) (r : Answered) (old new : List ℕ) : Type 0 where
-  pub state : r .state ≡ nextOf s shelf body
-  pub line : Put (eventLine place s shelf body) at (r .end) old new
-  pub fits : r .end ≤ at + LINE
+-- the line of a reply stands from at up to end, no longer than there is room; buffer is what the reply's answer was written to
+pub record Lined (place : ℕ) (reply : Reply) (buffer : List ℕ) (at end : ℕ) (old new : List ℕ) : Type 0 where
+  pub line : Put (lineOf place (reply .no) (take (reply .len) buffer)) at end old new
+  pub fits : end ≤ at + LINE
 
 -- the events of an input from a place on, one after another, with room for a line before each: their lines, the state that they leave, and
 -- where the next event starts and its place

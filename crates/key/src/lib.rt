@@ -21,7 +21,8 @@ ghost use Rattle.base64.specs.Base64.{base64};
 ghost use Rattle.base64.specs.Btid.{btid};
 ghost use Rattle.answer.specs.Answer.{ROOM, wantedBy};
 ghost use Rattle.outcome.specs.Outcome.{Met};
-ghost use Rattle.rules.specs.Key.{isNamed, lacks, wanted, grants, keyFor, keyRule};
+ghost use Rattle.rules.specs.Key.{isNamed, lacks, wanted, keyFor, keyRule};
+ghost use Rattle.key.specs.Replies.{Granted, Replied};
 
 const SESSIONS: usize = 64;
 
@@ -132,24 +133,20 @@ pub fn key_of(session: Session, naf: &[u8]) -> [u8; 32]
     ksnaf::ks_naf(&ks, &rand, &o[..n], naf)
 }
 
-// What the shelf gets of the live session.
+// What the shelf gets of the live session, in whatever state.
 pub fn grants(
-    state: State,
     policy: Policy,
     application: u64,
     naf: &[u8],
     session: Session,
     out: &mut [u8],
-) -> Outcome
+) -> Reply
     requires { ⌜ (ROOM ≤ length (now out)) × (length (now naf) ≤ NAME + UA) ⌝ }
-    ensures { λ r. ⌜ Met state (grants state policy application (keyFor (now (naf .entry)) session) session) (now (out .entry)) r (now (out .exit)) ⌝ }
+    ensures { λ r. ⌜ Granted policy application (now (naf .entry)) session (now (out .entry)) r (now (out .exit)) ⌝ }
 {
     let settings = session.settings;
     if lacks(policy, settings) {
-        return Outcome {
-            state: state,
-            reply: Reply { no: 16, len: 0 },
-        };
+        return Reply { no: 16, len: 0 };
     }
     let key = key_of(session, naf);
     let w = wanting(application, policy.group, settings);
@@ -165,10 +162,34 @@ pub fn grants(
         w.found,
         entry,
     );
-    Outcome {
-        state: state,
-        reply: Reply { no: 0, len: len },
+    Reply { no: 0, len: len }
+}
+
+// What a KEY gets where the search by its B-TID ended at row j.
+pub fn reply(
+    clock: u64,
+    policy: Policy,
+    time: u64,
+    j: usize,
+    session: Session,
+    naf: &[u8],
+    application: u64,
+    out: &mut [u8],
+) -> Reply
+    requires { ⌜ (ROOM ≤ length (now out)) × (length (now naf) ≤ NAME + UA) ⌝ }
+    ensures { λ r. ⌜ Replied clock policy time j session (now (naf .entry)) application (now (out .entry)) r (now (out .exit)) ⌝ }
+{
+    if time < clock {
+        return Reply { no: 4, len: 0 };
     }
+    let found = policy.found;
+    if found {} else {
+        return Reply { no: 14, len: 0 };
+    }
+    if SESSIONS <= j {
+        return Reply { no: 15, len: 0 };
+    }
+    grants(policy, application, naf, session, out)
 }
 
 pub fn key(
@@ -205,5 +226,9 @@ pub fn key(
         };
     };
     let session = sessions.at(j);
-    grants(state, policy, application, naf, session, out)
+    let granted = grants(policy, application, naf, session, out);
+    Outcome {
+        state: state,
+        reply: granted,
+    }
 }

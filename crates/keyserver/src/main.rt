@@ -106,7 +106,7 @@ fn run(state: State, shelf: Shelf, input: &mut [u8], out: &mut [u8], from: usize
         if EVENTS < place {
             return;
         }
-        let done = batch::answer_all(state, shelf, &input[..held], at, place, out);
+        let done = batch::serve(state, shelf, &input[..held], at, place, out);
         let len = done.len;
         if !io::write_all(libc::STDOUT_FILENO, &out[..len]) {
             return;

@@ -43,7 +43,7 @@ returns-4 : tie.Need-returns-4
 unfolding keyRule
 returns-4 c =
     let z = c .before .before .before .before .before .before .before .before .before .before .before .before .before .before .before .before .before in
-    met-stage _ _ _ _ _ _ (c .before .before .grants .ensures)
+    met-stage _ _ _ _ _ _ (c .before .before .grants .ensures (z .args .state))
     (passes-above _ _ _ _ _ (c .before .before .before .before .before .before .before .before .before .before .before .before .if1 .left) (passes-set _ _ _ _ (c .before .before .before .before .before .before .before .before .before .before .before .if2 .taken)
     (passes-found _ _ _ _ (c .before .before .before .before .before .before .before .before .named .ensures) _ _ (c .before .before .before .before .before .before .j .given .1)
     (ap (λ (x : Session). grants (z .args .state) (z .args .policy) (z .args .application) (keyFor (z .args .naf .now) x) x) (c .before .before .before .before .at .ensures)))))

@@ -29,14 +29,14 @@ same-length-2 c = c .before .before .loop .inv .3
 returns : tie.Need-returns Inv-loop μ-loop
 returns c = search needs
 
-slice-reshare-prefix-answer-all : tie.Need-slice-reshare-prefix-answer-all Inv-loop μ-loop
-slice-reshare-prefix-answer-all c = c .before .before .loop .inv .1
+slice-reshare-prefix-serve : tie.Need-slice-reshare-prefix-serve Inv-loop μ-loop
+slice-reshare-prefix-serve c = c .before .before .loop .inv .1
 
-slice-aggregate-answer-all : tie.Need-slice-aggregate-answer-all Inv-loop μ-loop
-slice-aggregate-answer-all c = sym (length-take-le _ _ (c .before .before .before .loop .inv .1))
+slice-aggregate-serve : tie.Need-slice-aggregate-serve Inv-loop μ-loop
+slice-aggregate-serve c = sym (length-take-le _ _ (c .before .before .before .loop .inv .1))
 
-answer-all-requires : tie.Need-answer-all-requires Inv-loop μ-loop
-answer-all-requires c κs =
+serve-requires : tie.Need-serve-requires Inv-loop μ-loop
+serve-requires c κs =
     let l = c .before .before .before .before .loop in
     let w = l .inv in
     let e = length-take-le (l .held) (l .input) (w .1) in
@@ -46,7 +46,7 @@ slice-reshare-prefix-write-all : tie.Need-slice-reshare-prefix-write-all Inv-loo
 slice-reshare-prefix-write-all c = search needs
 
 slice-aggregate-write-all : tie.Need-slice-aggregate-write-all Inv-loop μ-loop
-slice-aggregate-write-all c = sym (length-take-le _ _ (omega (arith, c .before .before .before .answer-all .ensures .fits)))
+slice-aggregate-write-all c = sym (length-take-le _ _ (omega (arith, c .before .before .before .serve .ensures .fits)))
 
 write-all-requires : tie.Need-write-all-requires Inv-loop μ-loop
 write-all-requires c κs = search needs
@@ -82,7 +82,7 @@ read-on-requires : tie.Need-read-on-requires Inv-loop μ-loop
 read-on-requires c κs =
     let l = c .before .before .before .before .before .before .before .before .before .before .before .before .before .before .loop in
     let e = length-take-le (l .held) (l .input) (l .inv .1) in
-    (omega (arith, e, c .before .before .before .before .before .before .before .before .before .answer-all .ensures .inside), l .inv .1)
+    (omega (arith, e, c .before .before .before .before .before .before .before .before .before .serve .ensures .inside), l .inv .1)
 
 same-length-7 : tie.Need-same-length-7 Inv-loop μ-loop
 same-length-7 c = omega (arith, c .before .before .before .before .before .before .before .before .before .before .before .before .before .before .before .before .before .before .loop .inv .2)
@@ -105,7 +105,7 @@ loop-again c =
     let v = l .inv in
     let e = length-take-le (l .held) (l .input) (v .1) in
     ⊎-elim
-    (λ w. (omega (arith, w .3, w .4, e, c .before .before .before .before .before .before .before .answer-all .ensures .inside), omega (arith, w .4, ap length (w .2), v .1), ap length (w .2) ∙ v .2, omega (arith, v .3)))
+    (λ w. (omega (arith, w .3, w .4, e, c .before .before .before .before .before .before .before .serve .ensures .inside), omega (arith, w .4, ap length (w .2), v .1), ap length (w .2) ∙ v .2, omega (arith, v .3)))
     (λ w. (omega (arith, w .8), omega (arith, w .9, ap length (w .7), w .3 .ensures), omega (arith, ap length (w .7), v .2), omega (arith, v .3)))
     (c .match .came)
 
@@ -128,9 +128,9 @@ run-spec =
     same-length
     same-length-2
     returns
-    slice-reshare-prefix-answer-all
-    slice-aggregate-answer-all
-    answer-all-requires
+    slice-reshare-prefix-serve
+    slice-aggregate-serve
+    serve-requires
     slice-reshare-prefix-write-all
     slice-aggregate-write-all
     write-all-requires
