@@ -98,7 +98,7 @@ typedef struct pr_reply {
 
 /* How far pr_serve went. */
 typedef struct pr_progress {
-    uint32_t no;    /* 0 more input is wanted, PR_SHORT no room for the next line, PR_FORM no event stands there */
+    uint32_t no;    /* 0 more input is wanted, PR_SHORT no room for another line, PR_FORM no event stands there */
     size_t len;     /* the octets of the lines */
     size_t at;      /* where in the input the first event that is left starts */
     uint64_t place; /* its place */
@@ -114,8 +114,8 @@ pr_reply pr_event(pr_state *state, const pr_row *rows, size_t row_count, const u
                   uint8_t *out, size_t out_len);
 
 /* The events at the front of `input`, each after its body length as a number, one after another, and a line of text in
-   `out` for each, as the event program prints it; `first` is the place of the first. It goes on while an event is whole
-   and PR_LINE octets of `out` are free. What stands where an event should and is none has its line, and ends the batch
+   `out` for each, as the event program prints it; `first` is the place of the first. It goes on while PR_LINE octets of
+   `out` are free and an event is whole: call again with the rest of the input and a place for more lines. What stands where an event should and is none has its line, and ends the batch
    with PR_FORM. A `first` that with the length of the input passes 64 bits is refused with PR_FORM and no line, and
    nothing changes. */
 pr_progress pr_serve(pr_state *state, pr_shelf shelf, uint64_t first, const uint8_t *input, size_t input_len,
