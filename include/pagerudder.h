@@ -3,12 +3,12 @@
  * `rt staticlib exports` writes to target/staticlib/libexports.a, for Linux on x86-64. Each is proved to do what its
  * contract in crates/exports/src/lib.rt says.
  *
- * The library has no memory of its own, allocates nothing, reads and writes nothing but what it is lent, and calls only
- * memcpy. Octets of events and answers are laid out as docs/GUIDE.md says; docs/REFUSALS.md says what to do about a
+ * The library has no memory of its own, allocates nothing, reads and writes nothing but what it is lent, and calls
+ * nothing but memcpy. docs/GUIDE.md says how events and answers are laid out, and docs/REFUSALS.md what to do about a
  * refusal.
  *
  * What the caller owes, and no proof can see:
- *   - Pointers are good for the count that comes after them. With a count of 0 any pointer will do, NULL too. `state` is
+ *   - A pointer is good for the count that comes after it. With a count of 0 any pointer will do, NULL too. `state` is
  *     never NULL.
  *   - State, inputs and buffer do not overlap.
  *   - One call at a time on one state. Calls on different states may run at once.
@@ -63,7 +63,7 @@ enum {
     PR_STACK = 524288           /* the stack that a caller keeps free; pr_serve uses about half of it */
 };
 
-/* The state of one server: runs, sessions and their keys. Zero-filled it is closed, and every event on it is NOT OPEN. */
+/* The state of one server: runs, sessions and their keys. Zero-filled it is closed: every event on it is NOT OPEN. */
 typedef struct pr_state {
     uint64_t opaque[4654];
 } pr_state;
@@ -74,8 +74,8 @@ typedef struct pr_name {
     size_t len;
 } pr_name;
 
-/* A row of the shelf table: for this peer and this FQDN, whether the IMPI is handed out, the group of the settings entry,
-   and the application that is required (0: none). The first row with the peer and the FQDN of a KEY counts. */
+/* A row of the shelf table: for this peer and this FQDN, whether the IMPI is handed out, the group of the settings
+   entry, and the application that is required (0: none). The first row with the peer and the FQDN of a KEY counts. */
 typedef struct pr_row {
     pr_name peer;
     pr_name fqdn;
@@ -104,20 +104,30 @@ typedef struct pr_progress {
     uint64_t place; /* its place */
 } pr_progress;
 
-/* Opens a server: writes a fresh state, whatever was there, and returns 0. With a domain not of 1 to 64 octets, a restart
-   above 4,294,967,295 or a default lifetime not of 60 to 604,800 seconds it writes the closed state and returns 1. */
+#ifdef __cplusplus
+#define PR_LAID static_assert
+#else
+#define PR_LAID _Static_assert
+#endif
+PR_LAID(sizeof(pr_state) == 37232 && sizeof(pr_name) == 72 && sizeof(pr_row) == 152, "laid out as the library's");
+PR_LAID(sizeof(pr_shelf) == 2440 && sizeof(pr_reply) == 16 && sizeof(pr_progress) == 32, "laid out as the library's");
+#undef PR_LAID
+
+/* Opens a server: writes a fresh state, whatever was there, and returns 0. With a domain not of 1 to 64 octets, a
+   restart above 4,294,967,295 or a default lifetime not of 60 to 604,800 seconds it writes the closed state and returns
+   PR_NOT_OPEN. */
 uint32_t pr_open(pr_state *state, const uint8_t *domain, size_t domain_len, uint64_t restart, uint64_t lifetime);
 
-/* One event, START to KEY: writes the answer to the front of `out` and the next state to `state`. It takes any number of
-   rows; only a KEY reads them. */
+/* One event, START to KEY: writes the answer to the front of `out` and the next state to `state`. It takes any number
+   of rows; only a KEY reads them. */
 pr_reply pr_event(pr_state *state, const pr_row *rows, size_t row_count, const uint8_t *body, size_t body_len,
                   uint8_t *out, size_t out_len);
 
 /* The events at the front of `input`, each after its body length as a number, one after another, and a line of text in
    `out` for each, as the event program prints it; `first` is the place of the first. It goes on while PR_LINE octets of
-   `out` are free and an event is whole: call again with the rest of the input and a place for more lines. What stands where an event should and is none has its line, and ends the batch
-   with PR_FORM. A `first` that with the length of the input passes 64 bits is refused with PR_FORM and no line, and
-   nothing changes. */
+   `out` are free and an event is whole; call again with the rest of the input. What stands where an event should and is
+   none has its line, and ends the batch with PR_FORM. A `first` that with the length of the input passes 64 bits is
+   refused with PR_FORM and no line, and nothing changes. */
 pr_progress pr_serve(pr_state *state, pr_shelf shelf, uint64_t first, const uint8_t *input, size_t input_len,
                      uint8_t *out, size_t out_len);
 
@@ -125,7 +135,8 @@ pr_progress pr_serve(pr_state *state, pr_shelf shelf, uint64_t first, const uint
 pr_reply pr_sha256(const uint8_t *message, size_t message_len, uint8_t *out, size_t out_len);
 
 /* HMAC (RFC 2104) with SHA-256. Refused as pr_sha256, for key and text. */
-pr_reply pr_hmac(const uint8_t *key, size_t key_len, const uint8_t *text, size_t text_len, uint8_t *out, size_t out_len);
+pr_reply pr_hmac(const uint8_t *key, size_t key_len, const uint8_t *text, size_t text_len, uint8_t *out,
+                 size_t out_len);
 
 /* The string of a key derivation (33.220 B.2.0): FC, then each parameter and its length. The parameters stand one after
    another in `run`, and `lens` has their lengths. Refused: PR_FORM for more than 8 parameters, one above 65,535 octets,

@@ -90,7 +90,7 @@ mod tests {
     use std::mem::{align_of, offset_of, size_of};
     use std::process::Command;
 
-    /// What `clients/layout.c` prints, which has the numbers of the header.
+    /// What `clients/layout.c` prints.
     fn printed_by_c() -> String {
         let root = concat!(env!("CARGO_MANIFEST_DIR"), "/..");
         let program = std::env::temp_dir().join(format!("pagerudder-layout-{}", std::process::id()));
@@ -115,13 +115,15 @@ mod tests {
     #[test]
     fn structs_lie_as_the_headers() {
         let ours = [
-            laid!("reply", Reply, no, len),
-            laid!("progress", Progress, no, len, at, place),
-            laid!("name", Name, octets, len),
-            laid!("row", Row, peer, fqdn, identity, group, required),
-            laid!("shelf", Shelf, rows, count),
-            laid!("state", State, opaque),
+            laid!("pr_reply", Reply, no, len),
+            laid!("pr_progress", Progress, no, len, at, place),
+            laid!("pr_name", Name, octets, len),
+            laid!("pr_row", Row, peer, fqdn, identity, group, required),
+            laid!("pr_shelf", Shelf, rows, count),
+            laid!("pr_state", State, opaque),
         ];
-        assert_eq!(ours.join("\n") + "\n", printed_by_c());
+        let headers = printed_by_c();
+        let headers: Vec<&str> = headers.lines().filter(|line| line.starts_with("pr_")).collect();
+        assert_eq!(ours.to_vec(), headers);
     }
 }
