@@ -5,6 +5,7 @@ pub mod compare;
 pub mod draw;
 pub mod generate;
 pub mod history;
+pub mod library;
 pub mod shrink;
 pub mod tally;
 pub mod write;

@@ -1,8 +1,9 @@
 //! Runs histories through the servers, seed after seed, until so many events have been compared.
 
-use drive::compare::{compare, compare_program, twin_printed, Difference, Server, Twin};
+use drive::compare::{compare, compare_program, twin_printed, Difference, Twin};
 use drive::generate;
 use drive::history::History;
+use drive::library::Library;
 use drive::shrink::shrink;
 use drive::tally::Tally;
 use std::path::{Path, PathBuf};
@@ -76,8 +77,7 @@ fn main() -> ExitCode {
 }
 
 fn differs(history: &History, options: &Options, tally: &mut Tally) -> Option<Difference> {
-    let mut one: Box<dyn Server> = Box::new(Twin::default());
-    if let Some(found) = compare(history, &mut *one, &mut Twin::default(), tally) {
+    if let Some(found) = compare(history, &mut Library::default(), &mut Twin::default(), tally) {
         return Some(found);
     }
     let program = options.program.as_ref().filter(|_| history.program)?;
