@@ -1,7 +1,9 @@
 //! A history through two servers: every number, length and octet of the buffer, after each event.
 
+use crate::draw::Draw;
 use crate::generate::open_twin;
 use crate::history::History;
+use crate::library;
 use crate::tally::Tally;
 use std::fs::File;
 use std::io::Write;
@@ -124,12 +126,62 @@ pub fn twin_printed(input: &[u8]) -> Vec<u8> {
     lines
 }
 
+/// The lines that the proved library prints of a history, batch by batch: the events arrive in pieces and the room for
+/// lines is now short, now long, as drawn from the history's seed.
+pub fn batch_printed(history: &History) -> Result<Vec<u8>, String> {
+    let mut draw = Draw::new(!history.seed);
+    let mut state = library::State::new();
+    if library::open(&mut state, &history.domain, history.restart, history.lifetime) != 0 {
+        return Ok(b"0 1 -\n".to_vec());
+    }
+    let input = &history.input()[history.opening_part().len()..];
+    let shelf = library::shelf(&history.rows);
+    let (mut lines, mut at, mut arrived, mut place) = (vec![], 0, 0, 1);
+    loop {
+        let mut out = vec![0xa5; draw.pick(&[0, 363, 364, 364, 400, 800, 5000])];
+        let done = library::serve(&mut state, &shelf, place, &input[at..arrived], &mut out);
+        if done.length > out.len() || out[done.length..].iter().any(|&octet| octet != 0xa5) {
+            return Err(format!("an octet after the lines was written, at place {}", done.place));
+        }
+        lines.extend_from_slice(&out[..done.length]);
+        (at, place) = (at + done.at, done.place);
+        match done.number {
+            0 if arrived < input.len() => {
+                let most = draw.pick(&[1, 20, 2000]);
+                arrived = input.len().min(arrived + draw.between(1, most));
+            }
+            0 => {
+                if at < input.len() {
+                    lines.extend_from_slice(format!("{place} 3 -\n").as_bytes());
+                }
+                return Ok(lines);
+            }
+            2 => {}
+            3 => return Ok(lines),
+            other => return Err(format!("a batch ended with {other}")),
+        }
+    }
+}
+
+/// Runs a history through the proved library's batches and through the independent server's program.
+pub fn compare_batch(history: &History) -> Option<Difference> {
+    match batch_printed(history) {
+        Ok(lines) => first_line(&lines, &twin_printed(&history.input())),
+        Err(what) => Some(Difference { place: 0, what }),
+    }
+}
+
 /// Runs a history through a program and through the independent server's.
 pub fn compare_program(history: &History, program: &Path, work: &Path, tally: &mut Tally) -> Option<Difference> {
     let input = history.input();
     let (one, other) = (printed(program, &input, work), twin_printed(&input));
     tally.programs += 1;
     tally.lines += other.iter().filter(|&&octet| octet == b'\n').count() as u64;
+    first_line(&one, &other)
+}
+
+/// The first line that differs.
+fn first_line(one: &[u8], other: &[u8]) -> Option<Difference> {
     if one == other {
         return None;
     }

@@ -1,6 +1,6 @@
 //! Runs histories through the servers, seed after seed, until so many events have been compared.
 
-use drive::compare::{compare, compare_program, twin_printed, Difference, Twin};
+use drive::compare::{compare, compare_batch, compare_program, twin_printed, Difference, Twin};
 use drive::generate;
 use drive::history::History;
 use drive::library::Library;
@@ -60,11 +60,12 @@ fn main() -> ExitCode {
     }
     println!("{}", tally.table());
     println!(
-        "seeds {} to {}: {} histories, {} events, {} histories with {} lines through the program, no difference",
+        "seeds {} to {}: {} histories with {} events through the library, {} in batches, {} with {} lines through the program: no difference",
         options.seed,
         seed - 1,
         tally.histories,
         tally.events,
+        tally.batches,
         tally.programs,
         tally.lines
     );
@@ -80,8 +81,16 @@ fn differs(history: &History, options: &Options, tally: &mut Tally) -> Option<Di
     if let Some(found) = compare(history, &mut Library::default(), &mut Twin::default(), tally) {
         return Some(found);
     }
-    let program = options.program.as_ref().filter(|_| history.program)?;
-    compare_program(history, program, &options.work, tally)
+    if !history.program {
+        return None;
+    }
+    if history.opening.is_none() {
+        tally.batches += 1;
+        if let Some(found) = compare_batch(history) {
+            return Some(found);
+        }
+    }
+    compare_program(history, options.program.as_ref()?, &options.work, tally)
 }
 
 /// Tells the smallest cut of a history that still differs, and writes it where the lab can run it.
