@@ -124,7 +124,7 @@ impl World {
             (16, Theme::Keys),
             (14, Theme::Settings),
             (8, Theme::Damage),
-            (3, Theme::Closed),
+            (if program { 8 } else { 3 }, Theme::Closed),
         ];
         if !program {
             themes.push((3, Theme::Spent));
@@ -894,20 +894,25 @@ impl World {
             return;
         }
         if self.draw.chance(25) {
-            let mut frame = vec![];
-            let meant = self.any_key();
-            text(&mut frame, &meant.body.octets);
-            match self.draw.below(6) {
-                0 => frame.truncate(self.draw.between(1, frame.len() - 1)),
-                1 => frame = vec![0],
-                2 => frame = [&[0x81, 0x04][..], &[1; 513]].concat(),
-                3 => frame = vec![0x86, 0x00, 1, 100, 3, b'a', b'@', b'b'],
-                4 => frame = vec![0x80; self.draw.between(1, 12)],
+            let good = {
+                let meant = self.any_key();
+                let mut frame = vec![];
+                text(&mut frame, &meant.body.octets);
+                frame
+            };
+            // A good event after what is bad shows whether the program has stopped.
+            let frame = match self.draw.below(8) {
+                0 | 1 => good[..self.draw.between(1, good.len() - 1)].to_vec(),
+                2 => [&[0], &good[..]].concat(),
+                3 => [&[0x81, 0x04], &[1; 513][..], &good].concat(),
+                4 => [&[0x86, 0x00, 1, 100, 3, b'a', b'@', b'b'], &good[..]].concat(),
+                5 => vec![0x80; self.draw.between(1, 12)],
+                6 => [&vec![0x80; self.draw.between(1, 12)][..], &[1], &good].concat(),
                 _ => {
                     let length = self.draw.between(1, 700);
-                    frame = self.draw.octets(length);
+                    self.draw.octets(length)
                 }
-            }
+            };
             self.history.tail = frame;
         }
     }
@@ -1004,29 +1009,58 @@ fn domain(draw: &mut Draw) -> Vec<u8> {
 }
 
 fn spoil_opening(draw: &mut Draw, history: &mut History) {
-    match draw.below(if history.program { 9 } else { 6 }) {
+    match draw.below(if history.program { 16 } else { 6 }) {
         0 => history.domain = vec![],
         1 => history.domain = vec![b'd'; draw.pick(&[65, 66, 127])],
         2 => history.restart = draw.pick(&[1 << 32, u64::MAX >> 1]),
         3 => history.lifetime = draw.pick(&[0, 1, 59]),
         4 => history.lifetime = draw.pick(&[604_801, 1 << 32, (1 << 32) + 60, u64::MAX >> 1]),
         5 => {} // a good opening, and a short history
-        6 => {
+        6 | 7 => {
             let mut part = history.opening_part();
             part.truncate(draw.below(part.len()));
             history.opening = Some(part);
         }
-        7 => {
+        8 | 9 => {
             let mut part = history.opening_part();
             let at = draw.below(part.len());
             part[at] ^= 1 << draw.below(8);
             history.opening = Some(part);
         }
-        _ => {
+        10 => {
             let length = draw.below(200);
             history.opening = Some(draw.octets(length));
         }
+        _ => history.opening = Some(slipped_part(draw, history)),
     }
+}
+
+/// An opening part with one field out of range or in a longer form; at times with none.
+fn slipped_part(draw: &mut Draw, history: &History) -> Vec<u8> {
+    let count = history.rows.len();
+    let (field, place) = (draw.below(8), draw.below(count.max(1)));
+    let declared = if field == 0 { draw.pick(&[count + 1, 17, 16, 0, 128]) } else { count };
+    let mut part = Body::default().text(&history.domain).number(history.restart).number(history.lifetime);
+    part = part.number(declared as u64);
+    for (at, row) in history.rows.iter().enumerate() {
+        let slip = if at == place { field } else { 0 };
+        let (mut peer, mut fqdn) = (row.peer[..row.peer_length].to_vec(), row.fqdn[..row.fqdn_length].to_vec());
+        match slip {
+            1 => peer.resize(draw.pick(&[0, 65]), b'p'),
+            2 => fqdn.resize(draw.pick(&[0, 65]), b'n'),
+            _ => {}
+        }
+        part = part.text(&peer).text(&fqdn);
+        part = part.octet(if slip == 3 { draw.pick(&[2, 3, 128, 255]) } else { u8::from(row.identity) });
+        part = part.number(if slip == 4 { draw.pick(&[256, 257, 511]) } else { u64::from(row.group) });
+        part = part.number(if slip == 5 { draw.pick(&[1 << 32, 1 << 35]) } else { u64::from(row.required) });
+    }
+    if field == 6 {
+        let (_, to) = draw.pick(&part.numbers);
+        part.octets[to - 1] |= 0x80;
+        part.octets.insert(to, 0);
+    }
+    part.octets
 }
 
 /// Different names, some of which nearly are another.

@@ -13,6 +13,7 @@ const USAGE: &str = "drive [--events N] [--seed N] [--program PATH] [--work DIR]
   --events N      stop when so many events have been compared (100,000)
   --seed N        the first seed (1)
   --program PATH  also run the histories that an event program can take through this one
+  --only-program PATH  run the histories through this program alone
   --work DIR      where differences are written (target/drive)
   --all           fail if an answer or a refusal never came";
 
@@ -20,18 +21,24 @@ struct Options {
     events: u64,
     seed: u64,
     program: Option<PathBuf>,
+    library: bool,
     work: PathBuf,
     all: bool,
 }
 
 fn options() -> Option<Options> {
-    let mut options = Options { events: 100_000, seed: 1, program: None, work: "target/drive".into(), all: false };
+    let mut options =
+        Options { events: 100_000, seed: 1, program: None, library: true, work: "target/drive".into(), all: false };
     let mut words = std::env::args().skip(1);
     while let Some(word) = words.next() {
         match word.as_str() {
             "--events" => options.events = words.next()?.replace([',', '_'], "").parse().ok()?,
             "--seed" => options.seed = words.next()?.parse().ok()?,
             "--program" => options.program = Some(words.next()?.into()),
+            "--only-program" => {
+                options.program = Some(words.next()?.into());
+                options.library = false;
+            }
             "--work" => options.work = words.next()?.into(),
             "--all" => options.all = true,
             _ => return None,
@@ -78,6 +85,11 @@ fn main() -> ExitCode {
 }
 
 fn differs(history: &History, options: &Options, tally: &mut Tally) -> Option<Difference> {
+    if !options.library {
+        let program = options.program.as_ref()?;
+        tally.events += history.events.len() as u64;
+        return if history.program { compare_program(history, program, &options.work, tally) } else { None };
+    }
     if let Some(found) = compare(history, &mut Library::default(), &mut Twin::default(), tally) {
         return Some(found);
     }
