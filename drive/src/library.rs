@@ -1,4 +1,6 @@
-//! The proved static library, and its records as C lays them out.
+//! The proved static library, and its records as C lays them out: here the state can be looked at, run numbers can be
+//! near their end, and rows can have names of any length. The Rust crate `pagerudder`, which allows none of this, is
+//! driven beside it.
 
 use crate::compare::{Memory, Server};
 use crate::history::History;
@@ -196,5 +198,44 @@ impl Server for Library {
         let reply = event(&mut self.state, &self.rows, body, out);
         let same = self.state.octets() == self.before.octets() || self.state == self.before;
         (reply.number, reply.length, if same { Memory::Same } else { Memory::Changed })
+    }
+}
+
+/// The proved server behind its Rust crate, for what the crate can be given.
+#[derive(Default)]
+pub struct Crate {
+    server: Option<pagerudder::Server>,
+    rows: Vec<pagerudder::Row>,
+}
+
+impl Crate {
+    /// Rows of the crate have names in range, and its server has given no runs before its first event.
+    pub fn takes(history: &History) -> bool {
+        let good = |length: usize| (1..=64).contains(&length);
+        history.given == 0 && history.rows.iter().all(|row| good(row.peer_length) && good(row.fqdn_length))
+    }
+}
+
+impl Server for Crate {
+    fn open(&mut self, history: &History) -> u32 {
+        let row = |row: &twin::Row| {
+            let (peer, fqdn) = (&row.peer[..row.peer_length], &row.fqdn[..row.fqdn_length]);
+            pagerudder::Row::new(peer, fqdn, row.identity, row.group, row.required)
+        };
+        self.rows = history.rows.iter().filter_map(|one| row(one).ok()).collect();
+        let opened = pagerudder::Server::open(&history.domain, history.restart, history.lifetime);
+        let number = opened.as_ref().err().map_or(0, |refusal| refusal.number());
+        self.server = opened.ok();
+        number
+    }
+
+    fn event(&mut self, _: &History, body: &[u8], out: &mut [u8]) -> (u32, usize, Memory) {
+        match &mut self.server {
+            None => (twin::NOT_OPEN, 0, Memory::NotSeen), // there is no server to give an event to
+            Some(server) => match server.event(&self.rows, body, out) {
+                Ok(answer) => (0, answer.len(), Memory::NotSeen),
+                Err(refusal) => (refusal.number(), 0, Memory::NotSeen),
+            },
+        }
     }
 }

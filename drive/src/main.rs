@@ -3,7 +3,7 @@
 use drive::compare::{compare, compare_batch, compare_program, twin_printed, Difference, Twin};
 use drive::generate;
 use drive::history::History;
-use drive::library::Library;
+use drive::library::{Crate, Library};
 use drive::shrink::shrink;
 use drive::tally::Tally;
 use std::path::{Path, PathBuf};
@@ -67,11 +67,12 @@ fn main() -> ExitCode {
     }
     println!("{}", tally.table());
     println!(
-        "seeds {} to {}: {} histories with {} events through the library, {} in batches, {} with {} lines through the program: no difference",
+        "seeds {} to {}: {} histories with {} events through the library, {} through the crate, {} in batches, {} with {} lines through the program: no difference",
         options.seed,
         seed - 1,
         tally.histories,
         tally.events,
+        tally.crates,
         tally.batches,
         tally.programs,
         tally.lines
@@ -92,6 +93,12 @@ fn differs(history: &History, options: &Options, tally: &mut Tally) -> Option<Di
     }
     if let Some(found) = compare(history, &mut Library::default(), &mut Twin::default(), tally) {
         return Some(found);
+    }
+    if Crate::takes(history) {
+        tally.crates += 1;
+        if let Some(found) = compare(history, &mut Crate::default(), &mut Twin::default(), &mut Tally::default()) {
+            return Some(found);
+        }
     }
     if !history.program {
         return None;

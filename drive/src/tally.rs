@@ -38,6 +38,7 @@ const MET: [&[usize]; 6] = [
 pub struct Tally {
     pub histories: u64,
     pub events: u64,
+    pub crates: u64,
     pub batches: u64,
     pub programs: u64,
     pub lines: u64,
