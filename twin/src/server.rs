@@ -154,6 +154,12 @@ impl State {
         }
     }
 
+    /// The state as if so many runs had been given: the last run number is too far to be reached by events.
+    pub fn with_runs_given(mut self, last: u32) -> State {
+        self.last = last;
+        self
+    }
+
     /// Takes one event. An answer returns 0 and its length and stands at the front of `out`; a refusal returns its
     /// number and 0 and changes nothing.
     pub fn event(&mut self, rows: &[Row], body: &[u8], out: &mut [u8]) -> (u32, usize) {
