@@ -106,7 +106,7 @@ fn serve(state: State, shelf: Shelf, first: u64, input: &[u8], out: &mut [u8]) -
         };
         return Batched { state, progress };
     }
-    let batch = batch::answer_all(state, shelf, input, 0, first, out);
+    let batch = batch::serve(state, shelf, input, 0, first, out);
     let why = batch.why;
     let no = number(why);
     let next = batch.state;

@@ -16,8 +16,8 @@ sub-most c = search needs
 returns : tie.Need-returns
 returns c = beyond (omega arith) refl refl
 
-answer-all-requires : tie.Need-answer-all-requires
-answer-all-requires c κs = search needs
+serve-requires : tie.Need-serve-requires
+serve-requires c κs = search needs
 
 number-requires : tie.Need-number-requires
 number-requires c κs = search needs
@@ -31,8 +31,8 @@ told b n = batched (b .state) (record { no = n; len = b .len; at = b .at; place 
 returns-2 : tie.Need-returns-2
 unfolding progressOf
 returns-2 c =
-    let b = c .before .before .before .before .answer-all .result in
-    within (omega arith) b (c .before .before .before .before .answer-all .ensures) (ap (told b) (c .before .number .ensures))
+    let b = c .before .before .before .before .serve .result in
+    within (omega arith) b (c .before .before .before .before .serve .ensures) (ap (told b) (c .before .number .ensures))
 
 pub serve-spec : {M : Type 1} → statement M
-serve-spec = tie.close (tie.spec sub-most returns answer-all-requires number-requires same-length returns-2)
+serve-spec = tie.close (tie.spec sub-most returns serve-requires number-requires same-length returns-2)
