@@ -1,13 +1,10 @@
-use mathlib.Core.Path.{refl, ap, _∙_}
+-- The answer stands in the buffer, and the run is the one that the rule puts in its row.
 use Prim.Native.Nat.{_+_}
-use Rattle.tables.specs.State.{started}
-use Rattle.records.specs.Rows.{startedRun}
+use mathlib.Core.Path.{refl, ap, _∙_}
 use Rattle.names.specs.declared.Name.{Name}
--- The answer stands in the buffer, and the run in its row.
-use Rattle.rules.specs.Start.{opens}
+use Rattle.records.specs.Rows.{startedRun}
 use Rattle.answer.specs.Answer.{encodeOf}
-use Rattle.outcome.proofs.Laws.{met-answered}
-use native.Mathlib.Omega.{arith}
+use Rattle.start.proofs.Laws.{met-opens}
 use borrow.Author.Needs.{needs}
 use Rattle.start.proofs.opens.Statement.{statement}
 use Rattle.start.proofs.opens.Tie as tie
@@ -24,19 +21,15 @@ of-requires c κs = search needs
 started-requires : tie.Need-started-requires
 started-requires c κs = search needs
 
-started-requires-2 : tie.Need-started-requires-2
-started-requires-2 c κs = search needs
-
 same-length : tie.Need-same-length
 same-length c = search needs
 
 returns : tie.Need-returns
-unfolding opens encodeOf
+unfolding encodeOf
 returns c =
-    let z = c .before .before .before .before .before .before .before .before .before .before in
-    met-answered _ _ _ _ _ _ _ _ (c .before .before .before .before .before .put-opened .ensures)
-    (c .started2 .ensures ∙ ap (started (z .args .state) (z .args .time) (z .args .i)) (c .before .started .ensures ∙ ap (λ (m : Name). startedRun (z .args .state .last + 1) (z .args .time) m (z .args .copy)) (c .before .before .of .ensures)))
-    refl
+    let z = c .before .before .before .before .before .before .before .before in
+    let row = c .started .ensures ∙ ap (λ (m : Name). startedRun (z .args .last + 1) (z .args .time) m (z .args .copy)) (c .before .of .ensures) in
+    record { answered = refl; met = λ s i a b. met-opens s _ _ _ i _ _ _ _ _ _ a b (c .before .before .before .before .put-opened .ensures) row }
 
 pub opens-spec : {M : Type 1} → statement M
 opens-spec =
@@ -46,6 +39,5 @@ opens-spec =
     put-opened-requires
     of-requires
     started-requires
-    started-requires-2
     same-length
     returns)

@@ -1,11 +1,9 @@
-use mathlib.Core.Path.{ap}
-use Rattle.flow.proofs.Chains.{passes-above, passes-found}
-use Rattle.outcome.proofs.Laws.{met-stage, passes-below}
-use Rattle.rules.specs.Start.{opens}
 -- Each refusal is a line of the rule; the last stage has its own proof.
-use Rattle.rules.specs.Start.{startRule}
-use Rattle.outcome.proofs.Laws.{rules}
-use native.Mathlib.Omega.{arith}
+use mathlib.Core.Path.{refl, ap}
+use Rattle.flow.proofs.Chains.{passes-above, passes-found}
+use Rattle.outcome.proofs.Laws.{rules, met-stage, passes-below}
+use Rattle.rules.specs.Start.{startRule, opens}
+use Rattle.start.proofs.Laws.{met-state}
 use borrow.Author.Needs.{needs}
 use Rattle.start.proofs.start.Statement.{statement}
 use Rattle.start.proofs.start.Tie as tie
@@ -37,15 +35,20 @@ offered-requires c κs = search needs
 opens-requires : tie.Need-opens-requires
 opens-requires c κs = search needs
 
+started-requires : tie.Need-started-requires
+started-requires c κs = search needs
+
 same-length : tie.Need-same-length
 same-length c = search needs
 
 returns-4 : tie.Need-returns-4
 unfolding startRule
 returns-4 c =
-    met-stage _ _ _ _ _ _ (c .before .before .opens .ensures)
-    (passes-above _ _ _ _ _ (c .before .before .before .before .before .before .before .before .before .before .before .before .if1 .left) (passes-below _ _ _ _ _ (c .before .before .before .before .before .before .before .before .before .before .if2 .taken)
-    (passes-found _ _ _ _ (c .before .before .before .before .before .before .before .before .free .ensures) _ _ (c .before .before .before .before .before .before .i .given .1) (ap (opens _ _ _ _) (c .before .before .before .before .offered .ensures)))))
+    let z = c .before .before .before .before .before .before .before .before .before .before .before .before .before .before .before .before .before .before .before .args in
+    met-state _ _ _ _ _ _ _ (c .before .started .ensures)
+    (met-stage _ _ _ _ _ _ (c .before .before .before .before .before .opens .ensures .met (z .state) _ refl refl)
+    (passes-above _ _ _ _ _ (c .before .before .before .before .before .before .before .before .before .before .before .before .before .before .before .if1 .left) (passes-below _ _ _ _ _ (c .before .before .before .before .before .before .before .before .before .before .before .before .before .if2 .taken)
+    (passes-found _ _ _ _ (c .before .before .before .before .before .before .before .before .before .before .before .free .ensures) _ _ (c .before .before .before .before .before .before .before .before .before .i .given .1) (ap (opens _ _ _ _) (c .before .before .before .before .before .before .before .offered .ensures))))))
 
 pub start-spec : {M : Type 1} → statement M
 start-spec =
@@ -59,5 +62,6 @@ start-spec =
     returns-3
     offered-requires
     opens-requires
+    started-requires
     same-length
     returns-4)
