@@ -1,7 +1,7 @@
 -- How a proof answers `Met`: by a refusal, by an answer that stands in the buffer, or by a stage of the rule that has met its part.
 -- And what `Met` says: a refusal is silent, and two outcomes that meet one promise are equal.
 use Prim.Native.Nat.{ℕ, _≤_, _<_}
-use mathlib.Core.Path.{_≡_, refl, sym, ap, _∙_}
+use mathlib.Core.Path.{_≡_, refl, sym, ap, subst⁻¹, _∙_}
 use mathlib.Core.Bool.{not}
 use mathlib.Core.List.{List}
 use lib.Dec.{ltb}
@@ -36,6 +36,10 @@ module _ (s : State) (o : Result Done) (old : List ℕ) where
         outcome = (λ i. record { state = q i; reply = record { no = 0; len = w .count i } }) ∙ ap (outcomeOf s) e;
         buffer = w .octets ∙ ap (λ (p : Result Done). bufferOf old (mapR octetsOf p)) e;
       }
+
+  -- a state that is another
+  pub met-state : (new : List ℕ) (reply : Reply) (v v′ : State) → v ≡ v′ → Met s o old (record { state = v′; reply = reply }) new → Met s o old (record { state = v; reply = reply }) new
+  met-state new reply v v′ e m = subst⁻¹ (λ (u : State). Met s o old (record { state = u; reply = reply }) new) e m
 
 -- a number that must be below another
 module _ {A : Type 0} (n : ℕ) (k : Result A) (a b : ℕ) where

@@ -1,6 +1,5 @@
 // VECTOR: document 01, "What each event does". It fills the run with its challenge, and with the settings that its session will have.
 use brought::Quintet;
-use flow::Found;
 use flow::Reply;
 use outcome::Outcome;
 use records::Run;
@@ -11,7 +10,12 @@ ghost use mathlib.Core.Path.{_≡_};
 ghost use lib.ListN.{length};
 ghost use Rattle.answer.specs.Answer.{ROOM};
 ghost use Rattle.outcome.specs.Outcome.{Met};
-ghost use Rattle.rules.specs.Vector.{noCopy, chosen, challenges, fills, vectorRule};
+ghost use Rattle.rules.specs.Vector.{noCopy, chosen, vectorRule};
+ghost use Rattle.vector.specs.Replies.{Challenges, Replied};
+
+const RUNS: usize = 32;
+
+const SESSIONS: usize = 64;
 
 // "As before", where nothing was offered.
 fn no_copy(kind: u8, row: Run) -> bool
@@ -35,18 +39,16 @@ fn chosen(kind: u8, given: Settings, row: Run) -> Settings
     given
 }
 
-// The run in row i gets its challenge.
-fn challenges(
-    state: State,
-    time: u64,
-    i: usize,
-    q: Quintet,
-    settings: Settings,
-    row: Run,
-    out: &mut [u8],
-) -> Outcome
+// The reply, and the run that an answer fills.
+pub struct Filled {
+    pub reply: Reply,
+    pub row: Run,
+}
+
+// The run gets its challenge.
+fn challenges(q: Quintet, settings: Settings, row: Run, out: &mut [u8]) -> Filled
     requires { ⌜ ROOM ≤ length (now out) ⌝ }
-    ensures { λ r. ⌜ Met state (challenges state time i q settings row) (now (out .entry)) r (now (out .exit)) ⌝ }
+    ensures { λ r. ⌜ Challenges q settings row (now (out .entry)) r (now (out .exit)) ⌝ }
 {
     let rand = q.rand;
     let autn = q.autn;
@@ -54,58 +56,84 @@ fn challenges(
     let xres = q.xres;
     let ks = q.ks;
     let filled = row.filled(rand, xres, q.xlen, ks, settings);
-    let next = state.filled(time, i, filled);
-    Outcome {
-        state: next,
+    Filled {
         reply: Reply { no: 0, len: len },
+        row: filled,
     }
 }
 
-// What the event does to the open run in row i.
-fn fills(
-    state: State,
+// What a VECTOR gets where the searches ended at row i with the run, and for its RAND at row j of the sessions and at row k of the runs.
+pub fn reply(
+    restart: u64,
+    clock: u64,
     time: u64,
+    named: u64,
     run: u64,
     i: usize,
+    row: Run,
+    j: usize,
+    k: usize,
     impi: &[u8],
     q: Quintet,
     kind: u8,
     given: Settings,
-    row: Run,
     out: &mut [u8],
-) -> Outcome
+) -> Filled
     requires { ⌜ ROOM ≤ length (now out) ⌝ }
-    ensures { λ r. ⌜ Met state (fills state time run i (now (impi .entry)) q kind given row) (now (out .entry)) r (now (out .exit)) ⌝ }
+    ensures { λ r. ⌜ Replied restart clock time named run i row j k (now (impi .entry)) q kind given (now (out .entry)) r (now (out .exit)) ⌝ }
 {
+    if time < clock {
+        return Filled {
+            reply: Reply { no: 4, len: 0 },
+            row: row,
+        };
+    }
+    if named != restart {
+        return Filled {
+            reply: Reply { no: 7, len: 0 },
+            row: row,
+        };
+    }
+    if RUNS <= i {
+        return Filled {
+            reply: Reply { no: 7, len: 0 },
+            row: row,
+        };
+    }
     let challenged = row.challenged;
     if challenged {
-        return Outcome {
-            state: state,
+        return Filled {
             reply: Reply { no: 8, len: 0 },
+            row: row,
         };
     }
     let own = row.impi;
     if own.is(impi) {} else {
-        return Outcome {
-            state: state,
+        return Filled {
             reply: Reply { no: 9, len: 0 },
+            row: row,
         };
     }
     if no_copy(kind, row) {
-        return Outcome {
-            state: state,
+        return Filled {
             reply: Reply { no: 10, len: 0 },
+            row: row,
         };
     }
-    let rand = q.rand;
-    if state.rand_seen(run, &rand, time) {
-        return Outcome {
-            state: state,
+    if j < SESSIONS {
+        return Filled {
             reply: Reply { no: 11, len: 0 },
+            row: row,
+        };
+    }
+    if k < RUNS {
+        return Filled {
+            reply: Reply { no: 11, len: 0 },
+            row: row,
         };
     }
     let settings = chosen(kind, given, row);
-    challenges(state, time, i, q, settings, row, out)
+    challenges(q, settings, row, out)
 }
 
 pub fn vector(
@@ -122,25 +150,39 @@ pub fn vector(
     requires { ⌜ ROOM ≤ length (now out) ⌝ }
     ensures { λ r. ⌜ Met state (vectorRule state time restart run (now (impi .entry)) q kind given) (now (out .entry)) r (now (out .exit)) ⌝ }
 {
-    if time < state.clock.0 {
-        return Outcome {
-            state: state,
-            reply: Reply { no: 4, len: 0 },
-        };
-    }
-    if restart != state.restart {
-        return Outcome {
-            state: state,
-            reply: Reply { no: 7, len: 0 },
-        };
-    }
     let runs = state.runs;
-    let Found::At(i) = runs.find(run, time) else {
-        return Outcome {
-            state: state,
-            reply: Reply { no: 7, len: 0 },
-        };
-    };
+    let sessions = state.sessions;
+    let rand = q.rand;
+    let i = sought::place(runs.find(run, time), RUNS);
     let row = runs.at(i);
-    fills(state, time, run, i, impi, q, kind, given, row, out)
+    let j = sought::place(sessions.with_rand(&rand, time), SESSIONS);
+    let k = sought::place(runs.other(run, &rand, time), RUNS);
+    let filled = reply(
+        state.restart,
+        state.clock.0,
+        time,
+        restart,
+        run,
+        i,
+        row,
+        j,
+        k,
+        impi,
+        q,
+        kind,
+        given,
+        out,
+    );
+    let told = filled.reply;
+    if told.no == 0 {
+        let next = state.filled(time, i, filled.row);
+        return Outcome {
+            state: next,
+            reply: told,
+        };
+    }
+    Outcome {
+        state: state,
+        reply: told,
+    }
 }

@@ -1,5 +1,5 @@
--- The answer stands in the buffer, and the run has its challenge.
-use mathlib.Core.Path.{refl, ap, _∙_}
+-- The answer stands in the buffer, and the run has its challenge, in whatever row.
+use mathlib.Core.Path.{refl, ap}
 use Rattle.tables.specs.State.{filled}
 use Rattle.answer.specs.Answer.{encodeOf}
 use Rattle.outcome.proofs.Laws.{met-answered}
@@ -19,24 +19,19 @@ slice-aggregate-put-challenge-2 c = search needs
 put-challenge-requires : tie.Need-put-challenge-requires
 put-challenge-requires c κs =
     let z = c .before .before .before .before .before .before in
-    let a = quintet-rand-long (z .args .q) _ (z .good .1 .1 .1 .0) in
-    let b = quintet-autn-long (z .args .q) _ (z .good .1 .1 .1 .0) in
+    let a = quintet-rand-long (z .args .q) _ (z .good .0) in
+    let b = quintet-autn-long (z .args .q) _ (z .good .0) in
     (z .pre, omega arith, omega arith)
 
 filled-requires : tie.Need-filled-requires
 filled-requires c κs = search needs
-
-filled-requires-2 : tie.Need-filled-requires-2
-filled-requires-2 c κs = search needs
 
 same-length : tie.Need-same-length
 same-length c = search needs
 
 returns : tie.Need-returns
 unfolding challenges encodeOf
-returns c =
-    let z = c .before .before .before .before .before .before .before .before .before .before .before .before .before in
-    met-answered _ _ _ _ _ _ _ _ (c .before .before .before .before .before .before .put-challenge .ensures) (c .filled2 .ensures ∙ ap (filled (z .args .state) (z .args .time) (z .args .i)) (c .before .filled .ensures)) refl
+returns c = record { answered = refl; met = λ s t i. met-answered s _ _ _ _ _ _ _ (c .before .before .before .before .before .put-challenge .ensures) (ap (filled s t i) (c .filled .ensures)) refl }
 
 pub challenges-spec : {M : Type 1} → statement M
 challenges-spec =
@@ -46,6 +41,5 @@ challenges-spec =
     slice-aggregate-put-challenge-2
     put-challenge-requires
     filled-requires
-    filled-requires-2
     same-length
     returns)

@@ -1,64 +1,108 @@
--- Each refusal is a line of the rule; the last stage has its own proof.
-use mathlib.Core.Path.{ap}
-use Rattle.flow.proofs.Chains.{passes-above, passes-equal, passes-found}
-use Rattle.records.specs.declared.Run.{Run}
-use Rattle.outcome.proofs.Laws.{rules, met-stage}
-use Rattle.rules.specs.Vector.{fills, vectorRule}
+-- The searches end where the methods say; what a VECTOR gets then is the rule's.
+use mathlib.Core.Path.{refl, sym, ap, _∙_}
+use Rattle.records.specs.Rows.{noRun, noSession, isRun, isOther, hasRand}
+use Rattle.brought.proofs.Laws.{quintet-rand-long}
+use Rattle.tables.proofs.Laws.{state-runs-long, state-sessions-long}
+use Rattle.tables.specs.declared.State.{State}
+use Rattle.outcome.proofs.Laws.{met-state}
+use Rattle.sought.proofs.Laws.{ends-found}
+use Rattle.vector.specs.Replies.{Looks}
 use native.Mathlib.Omega.{arith}
 use borrow.Author.Needs.{needs}
 use Rattle.vector.proofs.vector.Statement.{statement}
 use Rattle.vector.proofs.vector.Tie as tie
 
-returns : tie.Need-returns
-unfolding vectorRule
-returns c = search (rules, needs) depth 12
-
-returns-2 : tie.Need-returns-2
-unfolding vectorRule
-returns-2 c = search (rules, needs) depth 12
-
 find-requires : tie.Need-find-requires
 find-requires c κs = search needs
 
-enum-known-i : tie.Need-enum-known-i
-enum-known-i c = search needs
-
-enum-told : tie.Need-enum-told
-enum-told c = search needs
-
-returns-3 : tie.Need-returns-3
-unfolding vectorRule
-returns-3 c = search (rules, needs) depth 12
+place-requires : tie.Need-place-requires
+place-requires c κs = search needs
 
 at-requires : tie.Need-at-requires
 at-requires c κs = search needs
 
-fills-requires : tie.Need-fills-requires
-fills-requires c κs = search needs
+slice-aggregate-with-rand : tie.Need-slice-aggregate-with-rand
+slice-aggregate-with-rand c =
+    let z = c .before .before .before .before .before .before .before .before .before in
+    sym (quintet-rand-long (z .args .q) _ (z .good .1 .1 .1 .1 .1 .0))
+
+with-rand-requires : tie.Need-with-rand-requires
+with-rand-requires c κs = search needs
+
+place-requires-2 : tie.Need-place-requires-2
+place-requires-2 c κs = search needs
+
+slice-aggregate-other : tie.Need-slice-aggregate-other
+slice-aggregate-other c =
+    let z = c .before .before .before .before .before .before .before .before .before .before .before .before in
+    sym (quintet-rand-long (z .args .q) _ (z .good .1 .1 .1 .1 .1 .0))
+
+other-requires : tie.Need-other-requires
+other-requires c κs = search needs
+
+place-requires-3 : tie.Need-place-requires-3
+place-requires-3 c κs = search needs
+
+reply-requires : tie.Need-reply-requires
+reply-requires c κs = search needs
+
+filled-requires : tie.Need-filled-requires
+filled-requires c κs = search needs
 
 same-length : tie.Need-same-length
 same-length c = search needs
 
-returns-4 : tie.Need-returns-4
-unfolding vectorRule
-returns-4 c =
-    let z = c .before .before .before .before .before .before .before .before .before .before .before .before .before .before .before .before in
-    met-stage _ _ _ _ _ _ (c .before .before .fills .ensures)
-    (passes-above _ _ _ _ _ (c .before .before .before .before .before .before .before .before .before .before .before .before .if1 .left) (passes-equal _ _ _ _ _ (c .before .before .before .before .before .before .before .before .before .before .if2 .left)
-    (passes-found _ _ _ _ (c .before .before .before .before .before .before .before .before .find .ensures) _ _ (c .before .before .before .before .before .before .i .given .1)
-    (ap (λ (r : Run). fills (z .args .state) (z .args .time) (z .args .run) (c .before .before .before .before .before .before .i .given .0 .0) (z .args .impi .now) (z .args .q) (z .args .kind) (z .args .given) r) (c .before .before .before .before .at .ensures)))))
+returns : tie.Need-returns
+returns c =
+    let z = c .before .before .before .before .before .before .before .before .before .before .before .before .before .before .before .before .before .before .before .before .before .before in
+    let s = z .args .state in
+    let n = state-runs-long s _ (z .good .0) in
+    let m = state-sessions-long s _ (z .good .0) in
+    let l : Looks (s .restart) (s .clock .0) (z .args .time) (z .args .run) (c .before .before .before .before .before .before .before .before .before .before .before .before .before .before .before .place .result) (c .before .before .before .before .before .before .before .before .before .before .before .before .before .before .at .result) (c .before .before .before .before .before .before .before .before .before .before .before .place2 .result) (c .before .before .before .before .before .before .before .before .place3 .result) (z .args .q .rand) s =
+        record {
+          restart-is = refl;
+          clock-is = refl;
+          run = ends-found (isRun (z .args .run) (z .args .time)) (s .runs .rows) 32 _ noRun _ n _ (c .before .before .before .before .before .before .before .before .before .before .before .before .before .before .before .before .find .ensures) (c .before .before .before .before .before .before .before .before .before .before .before .before .before .before .before .place .ensures) (c .before .before .before .before .before .before .before .before .before .before .before .before .before .before .at .ensures);
+          live = ends-found (hasRand (z .args .q .rand) (z .args .time)) (s .sessions .rows) 64 _ noSession _ m _ (c .before .before .before .before .before .before .before .before .before .before .before .before .with-rand .ensures) (c .before .before .before .before .before .before .before .before .before .before .before .place2 .ensures) refl;
+          other = ends-found (isOther (z .args .run) (z .args .q .rand) (z .args .time)) (s .runs .rows) 32 _ noRun _ n _ (c .before .before .before .before .before .before .before .before .before .other .ensures) (c .before .before .before .before .before .before .before .before .place3 .ensures) refl;
+        } in
+    met-state _ _ _ _ _ _ _ (c .filled .ensures) (c .before .before .before .before .before .before .reply .ensures s l .answered (c .before .if1 .taken) .1)
+
+same-length-2 : tie.Need-same-length-2
+same-length-2 c = search needs
+
+returns-2 : tie.Need-returns-2
+returns-2 c =
+    let z = c .before .before .before .before .before .before .before .before .before .before .before .before .before .before .before .before .before .before .before .before .before in
+    let s = z .args .state in
+    let n = state-runs-long s _ (z .good .0) in
+    let m = state-sessions-long s _ (z .good .0) in
+    let l : Looks (s .restart) (s .clock .0) (z .args .time) (z .args .run) (c .before .before .before .before .before .before .before .before .before .before .before .before .before .before .place .result) (c .before .before .before .before .before .before .before .before .before .before .before .before .before .at .result) (c .before .before .before .before .before .before .before .before .before .before .place2 .result) (c .before .before .before .before .before .before .before .place3 .result) (z .args .q .rand) s =
+        record {
+          restart-is = refl;
+          clock-is = refl;
+          run = ends-found (isRun (z .args .run) (z .args .time)) (s .runs .rows) 32 _ noRun _ n _ (c .before .before .before .before .before .before .before .before .before .before .before .before .before .before .before .find .ensures) (c .before .before .before .before .before .before .before .before .before .before .before .before .before .before .place .ensures) (c .before .before .before .before .before .before .before .before .before .before .before .before .before .at .ensures);
+          live = ends-found (hasRand (z .args .q .rand) (z .args .time)) (s .sessions .rows) 64 _ noSession _ m _ (c .before .before .before .before .before .before .before .before .before .before .before .with-rand .ensures) (c .before .before .before .before .before .before .before .before .before .before .place2 .ensures) refl;
+          other = ends-found (isOther (z .args .run) (z .args .q .rand) (z .args .time)) (s .runs .rows) 32 _ noRun _ n _ (c .before .before .before .before .before .before .before .before .other .ensures) (c .before .before .before .before .before .before .before .place3 .ensures) refl;
+        } in
+    c .before .before .before .before .before .reply .ensures s l .refused (c .if1 .left)
 
 pub vector-spec : {M : Type 1} → statement M
 vector-spec =
     tie.close
     (tie.spec
-    returns
-    returns-2
     find-requires
-    enum-known-i
-    enum-told
-    returns-3
+    place-requires
     at-requires
-    fills-requires
+    slice-aggregate-with-rand
+    with-rand-requires
+    place-requires-2
+    slice-aggregate-other
+    other-requires
+    place-requires-3
+    reply-requires
+    filled-requires
     same-length
-    returns-4)
+    returns
+    same-length-2
+    returns-2)
