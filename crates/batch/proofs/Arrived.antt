@@ -33,7 +33,7 @@ module _ (input more : List ℕ) where
   pub ran-kept : {shelf : Shelf} {room : ℕ} {s : State} {from first : ℕ} {lines : List ℕ} {t : State} {at place : ℕ}
       → Ran shelf input room s from first lines t at place → Ran shelf (input ++ more) room s from first lines t at place
   ran-kept none = none
-  ran-kept {shelf = shelf} (one {lines = lines} {t = t} {at = at} {place = place} start end r fits body) =
+  ran-kept {shelf = shelf} {room = room} {s = s} {from = from} {first = first} (one {lines = lines} {t = t} {at = at} {place = place} start end r fits body) =
       let f = framed input at start end body in
       let b = between-kept start end (omega (arith, f .body .least)) (f .body .inside) in
-      subst (λ x. Ran shelf (input ++ more) _ _ _ _ (lines ▹ eventLine place t shelf x) (nextOf t shelf x) end (place + 1)) b (one start end (ran-kept r) fits (body-kept at start end body))
+      subst (λ x. Ran shelf (input ++ more) room s from first (lines ▹ eventLine place t shelf x) (nextOf t shelf x) end (place + 1)) b (one start end (ran-kept r) fits (body-kept at start end body))
