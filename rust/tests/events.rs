@@ -4,6 +4,7 @@ use pagerudder::{End, Row, Server, Shelf, BODY, LINE, ROOM};
 use std::fs;
 use std::path::PathBuf;
 use std::process::Command;
+use std::sync::OnceLock;
 
 /// The octets and the expected lines of each event file, by name.
 fn files() -> Vec<(String, Vec<u8>, String)> {
@@ -67,12 +68,16 @@ fn opening(input: &mut &[u8]) -> (Server, Vec<Row>) {
     (Server::open(domain, restart, lifetime).unwrap(), rows)
 }
 
-/// The files with a good opening part: the opening parts themselves are the event program's to read.
-fn opened() -> Vec<(String, Vec<u8>, String)> {
-    let mut all = files();
-    all.retain(|(_, _, expected)| expected != "0 1 -\n");
-    assert!(all.len() > 40, "only {} event files", all.len());
-    all
+/// The files with a good opening part: the opening parts themselves are the event program's to read. They are made once,
+/// since the tests run at the same time.
+fn opened() -> &'static [(String, Vec<u8>, String)] {
+    static ALL: OnceLock<Vec<(String, Vec<u8>, String)>> = OnceLock::new();
+    ALL.get_or_init(|| {
+        let mut all = files();
+        all.retain(|(_, _, expected)| expected != "0 1 -\n");
+        assert!(all.len() > 40, "only {} event files", all.len());
+        all
+    })
 }
 
 /// What is left where the input has ended is an event that was cut.
@@ -95,7 +100,7 @@ fn one_batch_has_the_expected_lines() {
         if progress.end == End::More {
             cut(&mut lines, input.len() - progress.at, progress.place);
         }
-        assert_eq!(String::from_utf8(lines).unwrap(), expected, "{name}");
+        assert_eq!(String::from_utf8(lines).unwrap(), *expected, "{name}");
     }
 }
 
@@ -122,7 +127,7 @@ fn batches_of_one_line_have_the_expected_lines() {
                 End::More => held = input.len().min(held + 37),
             }
         }
-        assert_eq!(String::from_utf8(lines).unwrap(), expected, "{name}");
+        assert_eq!(String::from_utf8(lines).unwrap(), *expected, "{name}");
     }
 }
 
@@ -149,6 +154,6 @@ fn event_by_event_has_the_expected_lines() {
                 Err(refusal) => lines += &format!("{place} {} -\n", refusal.number()),
             }
         }
-        assert_eq!(lines, expected, "{name}");
+        assert_eq!(lines, *expected, "{name}");
     }
 }
