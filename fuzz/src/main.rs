@@ -14,9 +14,11 @@ extern "C" {
     fn LLVMFuzzerMutate(data: *mut u8, length: usize, most: usize) -> usize;
 }
 
+/// Event by event; and for one input in four, as its octets fall, in batches as well.
 fn differs(history: &History) -> Option<Difference> {
-    compare(history, &mut Library::default(), &mut Twin::default(), &mut Tally::default())
-        .or_else(|| compare_batch(history))
+    let found = compare(history, &mut Library::default(), &mut Twin::default(), &mut Tally::default());
+    let sum: usize = history.events.iter().flat_map(|event| &event.body).map(|&octet| usize::from(octet)).sum();
+    found.or_else(|| if sum % 4 == 0 { compare_batch(history) } else { None })
 }
 
 /// One input. A difference is cut to its smallest history and written before the program ends.
