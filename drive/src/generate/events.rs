@@ -307,7 +307,8 @@ impl World {
             return (b"shelf".to_vec(), b"shelf.example".to_vec());
         }
         let rows = self.history.rows.len();
-        let (row, other) = (self.history.rows[self.draw.below(rows)], self.history.rows[self.draw.below(rows)]);
+        let place = if self.draw.chance(10) { rows - 1 } else { self.draw.below(rows) };
+        let (row, other) = (self.history.rows[place], self.history.rows[self.draw.below(rows)]);
         let peer = row.peer[..row.peer_length.clamp(1, NAME)].to_vec();
         let fqdn = row.fqdn[..row.fqdn_length.clamp(1, NAME)].to_vec();
         match self.draw.below(100) {

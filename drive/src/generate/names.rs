@@ -67,15 +67,19 @@ pub(super) fn rows(draw: &mut Draw, program: bool, theme: Theme) -> Vec<twin::Ro
         _ => draw.between(2, PROGRAM_ROWS),
     };
     let pool = names(draw, 1 + count.min(12) / 2);
+    // Else the later ones of many rows would hardly ever be the first of their names.
+    let own_names = count > PROGRAM_ROWS || draw.chance(20);
     (0..count)
-        .map(|_| {
+        .map(|place| {
             let mut row = twin::Row {
                 identity: draw.chance(50),
                 group: draw.weighted(&[(6, 0), (3, 1), (1, 255)]),
                 required: draw.weighted(&[(6, 0), (2, 1), (1, 2), (1, 7)]),
                 ..Default::default()
             };
+            let own = format!("shelf-{place}.e").into_bytes();
             let (peer, fqdn) = (&pool[draw.below(pool.len())], &pool[draw.below(pool.len())]);
+            let fqdn = if own_names && draw.chance(70) { &own } else { fqdn };
             row.peer[..peer.len()].copy_from_slice(peer);
             row.fqdn[..fqdn.len()].copy_from_slice(fqdn);
             (row.peer_length, row.fqdn_length) = (peer.len(), fqdn.len());
