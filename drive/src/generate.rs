@@ -161,7 +161,7 @@ impl World {
         if theme == Theme::Closed {
             damage::spoil_opening(&mut draw, &mut history);
         }
-        let state = open_twin(&history);
+        let (_, state) = open_twin(&history);
         let now = match draw.below(10) {
             0 => 0,
             1 => LAST_TIME - draw.between(0, 2000) as u64,
@@ -351,14 +351,14 @@ impl World {
     }
 }
 
-/// The independent server, opened as the history says.
-pub fn open_twin(history: &History) -> twin::State {
+/// The number that the independent server's opening returns, and the state, as the history says.
+pub fn open_twin(history: &History) -> (u32, twin::State) {
     let opened = match (u32::try_from(history.restart), u32::try_from(history.lifetime)) {
         (Ok(restart), Ok(lifetime)) => twin::State::open(&history.domain, restart, lifetime),
         _ => Err(twin::NOT_OPEN),
     };
     match opened {
-        Ok(state) => state.with_runs_given(history.given),
-        Err(_) => twin::State::closed(),
+        Ok(state) => (0, state.with_runs_given(history.given)),
+        Err(number) => (number, twin::State::closed()),
     }
 }
