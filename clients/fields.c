@@ -1,6 +1,6 @@
 /*
- * Fields that the library writes are read from C, and fields that C writes are seen by the library: in rows, replies, and a
- * pr_state from inside. All of it on a thread with PR_STACK octets of stack. Prints what was not as it should be.
+ * Fields that the library writes are read from C, and fields that C writes are seen by the library: in rows, replies,
+ * and a pr_state from inside. All of it on a thread with PR_STACK octets of stack. Prints what was not as it should be.
  */
 #include "inside.h"
 #include "line.h"
@@ -74,7 +74,7 @@ static event start_at(uint64_t time)
     return e;
 }
 
-/* RAND 00.., AUTN 10.., XRES 20.. (5 octets), CK 30.., IK 40.., and settings with the entry of application 5, group 3. */
+/* RAND 00.., AUTN 10.., XRES 20.. (5 octets), CK 30.., IK 40.., settings with the entry of application 5, group 3. */
 static event vector_at(uint64_t time)
 {
     uint8_t octets[16];
@@ -210,7 +210,7 @@ static void rows(void)
     shelf.count = 2;
 }
 
-/* What C writes in a state is what events go by: the session of `written` and a run, in the last rows of another state. */
+/* What C writes in a state is what events go by: the session of `written` and a run, in the last rows of another. */
 static void read_back(void)
 {
     state *s = &other.inside;

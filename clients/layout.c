@@ -1,6 +1,6 @@
 /*
- * Prints for each struct that C shares with the library where its fields start, in order, its size and its alignment: those
- * of the header, then a pr_state from inside.
+ * Prints for each struct that C shares with the library where its fields start, in order, its size and its alignment:
+ * those of the header, then a pr_state from inside.
  */
 #include "inside.h"
 #include "pagerudder.h"
@@ -22,7 +22,8 @@ int main(void)
         END(pr_row);
     BEGIN(pr_shelf), AT(pr_shelf, rows), AT(pr_shelf, count), END(pr_shelf);
     BEGIN(pr_state), AT(pr_state, opaque), END(pr_state);
-    BEGIN(entry), AT(entry, application), AT(entry, group), AT(entry, flags), AT(entry, user), AT(entry, len), END(entry);
+    BEGIN(entry), AT(entry, application), AT(entry, group), AT(entry, flags), AT(entry, user), AT(entry, len),
+        END(entry);
     BEGIN(settings), AT(settings, lifetime), AT(settings, timestamp), AT(settings, entries), END(settings);
     BEGIN(run), AT(run, number), AT(run, start), AT(run, impi), AT(run, challenged), AT(run, rand), AT(run, xres),
         AT(run, xlen), AT(run, ks), AT(run, settings), END(run);

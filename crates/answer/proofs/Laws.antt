@@ -1,25 +1,23 @@
 -- How much room the parts of an answer take.
 use Prim.Native.Nat.{ℕ, _+_, _≤_, _<_}
 use native.Mathlib.Omega.{arith}
-use mathlib.Core.Path.{_≡_, refl, sym, ap, _∙_}
+use mathlib.Core.Path.{_≡_}
 use mathlib.Core.Bool.{Bool, true, false}
 use mathlib.Core.List.{List, [], _∷_}
 use lib.Dec.{lit<}
-use lib.ListN.{length, take, drop, length-append}
-use lib.Seq.{take-at}
-use Rattle.flow.specs.Front.{_▹_, front, Wrote, Put}
+use lib.ListN.{length, take}
+use Rattle.flow.specs.Front.{_▹_, Put}
 use Rattle.flow.proofs.Fronts.{fields-length}
 use Rattle.line.specs.Number.{encodeIn, encode}
 use Rattle.line.specs.Text.{textOctets}
 use Rattle.line.proofs.Writing.{encode-last, number-ten}
 use Rattle.octets.proofs.Laws.{least-below}
-use Rattle.names.specs.Name.{octetsOf, lengthOf}
+use Rattle.names.specs.Name.{octetsOf}
 use Rattle.names.specs.declared.Name.{Name}
 use Rattle.names.proofs.Laws.{octets-length}
 use Rattle.flow.specs.Choice.{pick}
 use Rattle.records.specs.declared.Entry.{Entry}
 use Rattle.answer.specs.Answer.{identityOf, wantedOf, wantedBy, entryOctets, sessionOctets}
-use Rattle.base64.specs.Base64.{base64}
 use Rattle.base64.specs.Btid.{btid}
 use Rattle.base64.proofs.Apart.{btid-length}
 
@@ -32,18 +30,6 @@ name-room n h = rw (octets-length n h) (least-below (n .len) 64)
 
 pub btid-room : (rand : List ℕ) (n : Name) → length rand ≡ 16 → length (n .octets) ≡ 64 → length (btid rand (octetsOf n)) ≤ 89
 btid-room rand n h k = omega (arith, btid-length rand (octetsOf n) h, name-room n k)
-
--- the front of what was written is what was meant
-pub wrote-front : (x old new : List ℕ) (r : ℕ) → Wrote x r old new → take r new ≡ x
-unfolding front
-wrote-front x old new r w = rw (w .octets) (take-at x (drop (length x) old) r (sym (w .count)))
-
-pub put-as : (x y : List ℕ) (at end : ℕ) (old new : List ℕ) → x ≡ y → Put x at end old new → Put y at end old new
-put-as x y at end old new e p = rw e at p
-
-pub wrote-within : (x old new : List ℕ) (r : ℕ) → Wrote x r old new → r ≤ length new
-unfolding front
-wrote-within x old new r w = rw (w .octets, length-append) (omega (arith, w .count))
 
 -- the identity and the entry, as the code chooses them
 pub identity-shown : (shown : Bool) (n : Name) (at end : ℕ) (old new : List ℕ) → shown ≡ true → Put (textOctets (octetsOf n)) at end old new → Put (textOctets (identityOf shown n)) at end old new

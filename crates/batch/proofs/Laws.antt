@@ -124,10 +124,13 @@ module _ (shelf : Shelf) (input : List ℕ) (s : State) (from first : ℕ) (old 
         far = omega (arith, w .far, i .after .later);
       }
 
-  pub served-more : (f : Frame) → f ≡ frameAt input at → f ≡ FrameMore → Served shelf input s from first (record { state = t; at = at; place = place; len = len; why = More }) old new
+  room-left : 364 ≤ length new - len → length (w .lines) + LINE ≤ length old
+  room-left h = omega (arith, w .wrote .count, w .long, w .fits)
+
+  pub served-more : (f : Frame) → f ≡ frameAt input at → f ≡ FrameMore → 364 ≤ length new - len → Served shelf input s from first (record { state = t; at = at; place = place; len = len; why = More }) old new
   unfolding Ended lastLine
-  served-more f e g =
-      record { lines = w .lines; ran = w .ran; ended = sym e ∙ g; wrote = rw same-lines (w .wrote); inside = w .inside; fits = w .fits }
+  served-more f e g h =
+      record { lines = w .lines; ran = w .ran; ended = (room-left h, sym e ∙ g); wrote = rw same-lines (w .wrote); inside = w .inside; fits = w .fits }
 
   pub served-full : length new - len < 364 → Served shelf input s from first (record { state = t; at = at; place = place; len = len; why = Full }) old new
   unfolding Ended lastLine
@@ -141,7 +144,7 @@ module _ (shelf : Shelf) (input : List ℕ) (s : State) (from first : ℕ) (old 
       record {
         lines = w .lines;
         ran = w .ran;
-        ended = sym e ∙ g;
+        ended = (room-left h, sym e ∙ g);
         wrote = next-put (w .lines) (badLine place) len end old new last p (w .wrote);
         inside = w .inside;
         fits = omega (arith, p .place, line-long place 3 [], w .long, w .fits);

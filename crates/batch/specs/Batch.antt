@@ -56,16 +56,16 @@ pub data Ran (shelf : Shelf) (input : List ℕ) (room : ℕ) (s : State) (from f
       → length lines + LINE ≤ room → frameAt input at ≡ Body start end
       → Ran shelf input room s from first (lines ▹ eventLine place t shelf (between input start end)) (nextOf t shelf (between input start end)) end (place + 1)
 
--- why the next event was not answered, and the line that says so
+-- why the next event was not answered, and the line that says so; the room is looked at before the event
 unfoldable pub lastLine : Why → ℕ → List ℕ
 lastLine More place = []
 lastLine Full place = []
 lastLine Bad place = badLine place
 
 unfoldable pub Ended : Why → List ℕ → ℕ → ℕ → ℕ → Type 0
-Ended More input room at len = frameAt input at ≡ FrameMore
+Ended More input room at len = (len + LINE ≤ room) × (frameAt input at ≡ FrameMore)
 Ended Full input room at len = room < len + LINE
-Ended Bad input room at len = frameAt input at ≡ FrameBad
+Ended Bad input room at len = (len + LINE ≤ room) × (frameAt input at ≡ FrameBad)
 
 -- a batch: its events were answered, their lines stand at the front, and the next event was not answered for the reason that r gives
 pub record Served (shelf : Shelf) (input : List ℕ) (s : State) (from first : ℕ) (r : Batch) (old new : List ℕ) : Type 0 where

@@ -1,13 +1,13 @@
 -- How the shelf is filled: the rows read so far, and those that are left.
-use Prim.Native.Nat.{ℕ, zero, suc, _+_, _-_, _<_, _≤_}
-use native.Mathlib.Numerals.{add-one}
+use Rattle.flow.proofs.Tables.{set-next}
+use Prim.Native.Nat.{ℕ, suc, _+_, _-_, _<_, _≤_}
 use native.Mathlib.Nat.{sub-zero}
 use native.Mathlib.Omega.{arith}
 use mathlib.Core.Path.{_≡_, refl, sym, ap, _∙_}
 use mathlib.Core.Logic.{⊎-elim}
 use mathlib.Core.List.{List, [], _∷_, _++_, append-nil, append-assoc}
 use lib.Dec.{leb}
-use lib.ListN.{length, take, set, replicate, length-append}
+use lib.ListN.{length, set, replicate, length-append}
 use lib.Seq.{take-append-le}
 use borrow.Author.Tests.{leb-true, leb-false}
 use Rattle.flow.specs.Choice.{pick}
@@ -24,20 +24,6 @@ pub least-both : (n a b : ℕ) → n ≡ least a b → (n ≤ a) × (n ≤ b)
 unfolding pick
 least-both n a b e =
     ⊎-elim (λ k. let f : n ≡ a = e ∙ rw k in (omega arith, omega (arith, leb-true a b k))) (λ k. let f : n ≡ b = e ∙ rw k in (omega (arith, leb-false a b k), omega arith)) (split (leb a b))
-
--- the first free place of n takes one more
-module _ {A : Type 0} (d : A) where
-  take-same : (n m : ℕ) → n ≤ m → take n (replicate m d) ≡ take n (replicate (suc m) d)
-  take-same zero m h = refl
-  take-same (suc n) zero h = absurd (omega arith)
-  take-same (suc n) (suc m) h = ap (λ (l : List A). d ∷ l) (take-same n m (omega arith))
-
-  pub set-next : (x : A) (r : List A) (n m : ℕ) → length r < n → n ≤ m → set (take n (r ++ replicate m d)) (length r) x ≡ take n ((r ++ (x ∷ [])) ++ replicate m d)
-  set-next x [] zero m h k = absurd (omega arith)
-  set-next x [] (suc n) zero h k = absurd (omega arith)
-  set-next x [] (suc n) (suc m) h k = ap (λ (l : List A). x ∷ l) (take-same n m (omega arith))
-  set-next x (y ∷ r) zero m h k = absurd (omega arith)
-  set-next x (y ∷ r) (suc n) m h k = ap (λ (l : List A). y ∷ l) (set-next x r n m (omega arith) (omega arith))
 
 -- one row, and then the rest
 rows-next : (n m : ℕ) (s : List ℕ) (at : ℕ) → n ≡ suc m → rowsOf n s at ≡ placed s at .row ∷ rowsOf m s (placed s at .end)

@@ -1,3 +1,4 @@
 pub mod Laws
 pub mod Filling
 pub mod Ends
+pub mod Arrived

@@ -18,21 +18,42 @@ use Rattle.records.specs.Settings.{noSettings}
 
 unfoldable pub noRun : Run
 noRun = record {
-  number = 0; start = moment 0; impi = noName; challenged = false; rand = replicate 16 0; xres = replicate 16 0; xlen = 0; ks = replicate 32 0;
+  number = 0;
+  start = moment 0;
+  impi = noName;
+  challenged = false;
+  rand = replicate 16 0;
+  xres = replicate 16 0;
+  xlen = 0;
+  ks = replicate 32 0;
   settings = noSettings;
 }
 
 -- START: a run of that number, with the copy offered
 unfoldable pub startedRun : ℕ → ℕ → Name → Settings → Run
 startedRun n t impi copy = record {
-  number = n; start = moment t; impi = impi; challenged = false; rand = replicate 16 0; xres = replicate 16 0; xlen = 0; ks = replicate 32 0;
+  number = n;
+  start = moment t;
+  impi = impi;
+  challenged = false;
+  rand = replicate 16 0;
+  xres = replicate 16 0;
+  xlen = 0;
+  ks = replicate 32 0;
   settings = copy;
 }
 
 -- VECTOR: the run with its challenge, and the settings that its session will have
 unfoldable pub filledRun : Run → List ℕ → List ℕ → ℕ → List ℕ → Settings → Run
 filledRun r rand xres xlen ks settings = record {
-  number = r .number; start = r .start; impi = r .impi; challenged = true; rand = rand; xres = xres; xlen = xlen; ks = ks;
+  number = r .number;
+  start = r .start;
+  impi = r .impi;
+  challenged = true;
+  rand = rand;
+  xres = xres;
+  xlen = xlen;
+  ks = ks;
   settings = settings;
 }
 

@@ -36,7 +36,7 @@ use Rattle.rules.specs.History.{Input, decided, after}
 use Rattle.rules.specs.Said.{answerOf, Answers}
 use Rattle.rules.specs.Late.{eventIn}
 use Rattle.rules.specs.Served.{Reaches, OpenRunsAreServed}
-use Rattle.rules.proofs.Tables.{passed, missed}
+use Rattle.flow.proofs.Tables.{passed, missed}
 use Rattle.rules.proofs.Steps.{policy}
 use Rattle.rules.proofs.Sound.{in-front, Sound, sound-opened, sound-after}
 

@@ -39,15 +39,27 @@ randSeen n rand t s = found (first (hasRand rand t) (s .sessions .rows)) || foun
 
 abbrev pub afterOf : State → ℕ → Runs → Sessions → State
 afterOf s t runs sessions = record {
-  ready = s .ready; domain = s .domain; restart = s .restart; lifetime = s .lifetime; clock = moment t; last = s .last;
-  runs = runs; sessions = sessions;
+  ready = s .ready;
+  domain = s .domain;
+  restart = s .restart;
+  lifetime = s .lifetime;
+  clock = moment t;
+  last = s .last;
+  runs = runs;
+  sessions = sessions;
 }
 
 -- START: a run stands in row i, and its number is the last given
 unfoldable pub started : State → ℕ → ℕ → Run → State
 started s t i r = record {
-  ready = s .ready; domain = s .domain; restart = s .restart; lifetime = s .lifetime; clock = moment t; last = r .number;
-  runs = putRun (s .runs) i r; sessions = s .sessions;
+  ready = s .ready;
+  domain = s .domain;
+  restart = s .restart;
+  lifetime = s .lifetime;
+  clock = moment t;
+  last = r .number;
+  runs = putRun (s .runs) i r;
+  sessions = s .sessions;
 }
 
 -- VECTOR: the run in row i has its challenge

@@ -67,7 +67,7 @@ same-length : tie.Need-same-length Inv-loop μ-loop
 same-length c = c .before .before .before .before .loop .inv .long
 
 returns : tie.Need-returns Inv-loop μ-loop
-returns c = served-more _ _ _ _ _ _ _ _ _ _ _ (c .before .before .before .before .loop .inv) _ (c .before .before .read-frame .ensures) (c .enum-told .given .1)
+returns c = served-more _ _ _ _ _ _ _ _ _ _ _ (c .before .before .before .before .loop .inv) _ (c .before .before .read-frame .ensures) (c .enum-told .given .1) (c .before .before .before .loop-test .taken)
 
 enum-told-2 : tie.Need-enum-told-2 Inv-loop μ-loop
 enum-told-2 c = search needs
