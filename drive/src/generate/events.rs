@@ -269,7 +269,8 @@ impl World {
             5 => text = btid(&self.draw.array::<16>(), b"bsf.other.example"),
             6..=7 => {
                 // Any one octet: a letter's case, the "@", the padding, the domain.
-                let at = self.draw.pick(&[0, 1, 20, 21, 22, 23, 24, 25, text.len() - 1]);
+                let last = text.len() - 1;
+                let at = self.draw.pick(&[0, 1, 20, 21, 22, 23, 24, 25, last]).min(last);
                 text[at] ^= self.draw.pick(&[0x20, 0x01, 0x80]);
             }
             8 => text.truncate(25),
