@@ -37,9 +37,9 @@ impl Default for Twin {
 
 impl Server for Twin {
     fn open(&mut self, history: &History) -> u32 {
-        self.0 = open_twin(history);
-        let mut out = [0; 0];
-        self.0.event(&[], &[], &mut out).0 & 1 // a closed state says 1, an open one 2 (the buffer is short)
+        let (number, state) = open_twin(history);
+        self.0 = state;
+        number
     }
 
     fn event(&mut self, history: &History, body: &[u8], out: &mut [u8]) -> (u32, usize, Memory) {

@@ -1,6 +1,6 @@
 //! A history: an opening, a shelf table, and events.
 
-use crate::write::{number, text};
+use crate::write::{number, read_number, text};
 
 /// Buffer that the event program lends for an answer.
 pub const ROOM: usize = 160;
@@ -43,6 +43,42 @@ impl History {
         }
         input.extend_from_slice(&self.tail);
         input
+    }
+
+    /// The history that an event program reads, if its opening part is good.
+    pub fn read(input: &[u8]) -> Option<History> {
+        let mut rest = input;
+        let domain = name(&mut rest)?.to_vec();
+        let restart = short_number(&mut rest, u64::from(u32::MAX))?;
+        let lifetime = short_number(&mut rest, 604_800).filter(|&lifetime| lifetime >= 60)?;
+        let mut rows = vec![];
+        for _ in 0..short_number(&mut rest, PROGRAM_ROWS as u64)? {
+            let mut row = twin::Row::default();
+            let (peer, fqdn) = (name(&mut rest)?, name(&mut rest)?);
+            row.peer[..peer.len()].copy_from_slice(peer);
+            row.fqdn[..fqdn.len()].copy_from_slice(fqdn);
+            (row.peer_length, row.fqdn_length) = (peer.len(), fqdn.len());
+            let (&identity, after) = rest.split_first().filter(|(&identity, _)| identity <= 1)?;
+            rest = after;
+            row.identity = identity == 1;
+            row.group = short_number(&mut rest, 255)? as u8;
+            row.required = short_number(&mut rest, u64::from(u32::MAX))? as u32;
+            rows.push(row);
+        }
+        let mut events = vec![];
+        while let Some((body, after)) = frame(rest) {
+            events.push(Event { body: body.to_vec(), room: ROOM });
+            rest = after;
+        }
+        let (opening, tail) = (None, rest.to_vec());
+        Some(History { seed: 0, domain, restart, lifetime, rows, events, given: 0, program: true, opening, tail })
+    }
+
+    /// Octets without a good opening part: for the event program alone.
+    pub fn of_octets(input: &[u8]) -> History {
+        let opening = Some(input.to_vec());
+        let (domain, rows, events, tail) = (vec![], vec![], vec![], vec![]);
+        History { seed: 0, domain, restart: 0, lifetime: 0, rows, events, given: 0, program: true, opening, tail }
     }
 
     pub fn opening_part(&self) -> Vec<u8> {
@@ -93,6 +129,29 @@ impl History {
         }
         lines
     }
+}
+
+/// A number in its shortest form at the front, and at most `most`.
+fn short_number(rest: &mut &[u8], most: u64) -> Option<u64> {
+    let (value, length) = read_number(rest)?;
+    let shortest = length == 1 || rest[length - 1] != 0;
+    *rest = &rest[length..];
+    Some(value).filter(|&value| shortest && value <= most)
+}
+
+/// A text of 1 to 64 octets at the front.
+fn name<'a>(rest: &mut &'a [u8]) -> Option<&'a [u8]> {
+    let length = short_number(rest, 64).filter(|&length| length > 0)? as usize;
+    let (name, after) = (rest.get(..length)?, &rest[length..]);
+    *rest = after;
+    Some(name)
+}
+
+/// An event at the front, and what follows it.
+fn frame(input: &[u8]) -> Option<(&[u8], &[u8])> {
+    let mut rest = input;
+    let length = short_number(&mut rest, 512).filter(|&length| length > 0)? as usize;
+    Some((rest.get(..length)?, &rest[length..]))
 }
 
 pub fn hex(octets: &[u8]) -> String {

@@ -3,6 +3,7 @@
 
 pub mod compare;
 pub mod draw;
+pub mod functions;
 pub mod generate;
 pub mod history;
 pub mod library;

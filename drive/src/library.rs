@@ -68,6 +68,9 @@ pub struct State {
     sessions: [Session; 64],
 }
 
+/// As `include/pagerudder.h` has it.
+const _: () = assert!(std::mem::size_of::<State>() == 37_232);
+
 #[repr(C)]
 #[derive(Clone, Copy)]
 pub struct Row {
@@ -143,9 +146,28 @@ impl State {
         unsafe { Box::new(std::mem::zeroed()) }
     }
 
-    fn octets(&self) -> &[u8] {
-        // SAFETY: for telling that nothing at all has changed; the octets between fields are of no meaning.
+    /// Every octet, those between fields included.
+    pub fn octets(&self) -> &[u8] {
+        // SAFETY: the memory of a state was all zeros at first, so each octet has a value.
         unsafe { std::slice::from_raw_parts((self as *const State).cast(), std::mem::size_of::<State>()) }
+    }
+}
+
+impl State {
+    /// The state of any octets, but with 0 or 1 where C wants one of them.
+    pub fn put_octets(&mut self, octets: &[u8]) {
+        assert_eq!(octets.len(), std::mem::size_of::<State>());
+        let flags = std::iter::once(std::mem::offset_of!(State, ready)).chain((0..32).map(|place| {
+            std::mem::offset_of!(State, runs)
+                + place * std::mem::size_of::<Run>()
+                + std::mem::offset_of!(Run, challenged)
+        }));
+        let mut good = octets.to_vec();
+        for at in flags {
+            good[at] &= 1;
+        }
+        // SAFETY: as long as the state, and every field takes any value but the flags, which are 0 or 1.
+        unsafe { std::ptr::copy_nonoverlapping(good.as_ptr(), (self as *mut State).cast(), good.len()) };
     }
 }
 

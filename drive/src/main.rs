@@ -14,6 +14,7 @@ const USAGE: &str = "drive [--events N] [--seed N] [--program PATH] [--work DIR]
   --seed N        the first seed (1)
   --program PATH  also run the histories that an event program can take through this one
   --only-program PATH  run the histories through this program alone
+  --inputs DIR    no drawn histories but every file below this place, an input of the event program each
   --work DIR      where differences are written (target/drive)
   --all           fail if an answer or a refusal never came";
 
@@ -22,13 +23,21 @@ struct Options {
     seed: u64,
     program: Option<PathBuf>,
     library: bool,
+    inputs: Option<PathBuf>,
     work: PathBuf,
     all: bool,
 }
 
 fn options() -> Option<Options> {
-    let mut options =
-        Options { events: 100_000, seed: 1, program: None, library: true, work: "target/drive".into(), all: false };
+    let mut options = Options {
+        events: 100_000,
+        seed: 1,
+        program: None,
+        library: true,
+        inputs: None,
+        work: "target/drive".into(),
+        all: false,
+    };
     let mut words = std::env::args().skip(1);
     while let Some(word) = words.next() {
         match word.as_str() {
@@ -39,6 +48,7 @@ fn options() -> Option<Options> {
                 options.program = Some(words.next()?.into());
                 options.library = false;
             }
+            "--inputs" => options.inputs = Some(words.next()?.into()),
             "--work" => options.work = words.next()?.into(),
             "--all" => options.all = true,
             _ => return None,
@@ -57,32 +67,58 @@ fn main() -> ExitCode {
         return ExitCode::from(2);
     }
     let mut tally = Tally::default();
+    if let Some(place) = &options.inputs {
+        return inputs(place, &options, &mut tally);
+    }
     let mut seed = options.seed;
     while tally.events < options.events {
         if let Some(found) = differs(&generate::history(seed), &options, &mut tally) {
-            report(seed, &found, &options);
+            report(&format!("seed-{seed}"), generate::history(seed), &found, &options);
             return ExitCode::from(1);
         }
         seed += 1;
     }
     println!("{}", tally.table());
-    println!(
-        "seeds {} to {}: {} histories with {} events through the library, {} through the crate, {} in batches, {} with {} lines through the program: no difference",
-        options.seed,
-        seed - 1,
-        tally.histories,
-        tally.events,
-        tally.crates,
-        tally.batches,
-        tally.programs,
-        tally.lines
-    );
+    println!("seeds {} to {}: {}", options.seed, seed - 1, told(&tally));
     let missing = tally.missing();
     if options.all && !missing.is_empty() {
         println!("never met: {}", missing.join("; "));
         return ExitCode::from(1);
     }
     ExitCode::SUCCESS
+}
+
+/// Runs every file of a place.
+fn inputs(place: &Path, options: &Options, tally: &mut Tally) -> ExitCode {
+    let entries = match std::fs::read_dir(place) {
+        Ok(entries) => entries,
+        Err(error) => {
+            eprintln!("drive: {}: {error}", place.display());
+            return ExitCode::from(2);
+        }
+    };
+    let mut paths: Vec<PathBuf> = entries.flatten().map(|entry| entry.path()).collect();
+    paths.sort();
+    for path in &paths {
+        let Ok(input) = std::fs::read(path) else { continue };
+        // What has no good opening part is for the program alone.
+        let history = History::read(&input).unwrap_or_else(|| History::of_octets(&input));
+        if let Some(found) = differs(&history, options, tally) {
+            let name = path.file_name().map_or("input".into(), |name| name.to_string_lossy());
+            report(&name, history, &found, options);
+            return ExitCode::from(1);
+        }
+    }
+    println!("{}", tally.table());
+    println!("{} inputs: {}", paths.len(), told(tally));
+    ExitCode::SUCCESS
+}
+
+fn told(tally: &Tally) -> String {
+    format!(
+        "{} histories with {} events through the library, {} through the crate, {} in batches, {} with {} lines through the program: no difference",
+        tally.histories, tally.events, tally.crates, tally.batches, tally.programs, tally.lines
+    )
 }
 
 fn differs(history: &History, options: &Options, tally: &mut Tally) -> Option<Difference> {
@@ -113,9 +149,8 @@ fn differs(history: &History, options: &Options, tally: &mut Tally) -> Option<Di
 }
 
 /// Tells the smallest cut of a history that still differs, and writes it where the lab can run it.
-fn report(seed: u64, found: &Difference, options: &Options) {
-    let whole = generate::history(seed);
-    println!("seed {seed}: event {} of {}: {}", found.place + 1, whole.events.len(), found.what);
+fn report(name: &str, whole: History, found: &Difference, options: &Options) {
+    println!("{name}: event {} of {}: {}", found.place + 1, whole.events.len(), found.what);
     let cut = shrink(&whole, |less| differs(less, options, &mut Tally::default()).is_some());
     if let Some(found) = differs(&cut, options, &mut Tally::default()) {
         println!(
@@ -126,7 +161,7 @@ fn report(seed: u64, found: &Difference, options: &Options) {
             found.what
         );
     }
-    let name = options.work.join(format!("seed-{seed}"));
+    let name = options.work.join(name);
     write(&name.with_extension("dump"), cut.dump().as_bytes());
     print!("{}", cut.dump());
     if cut.program {

@@ -27,8 +27,13 @@ pub fn shrink(history: &History, mut differs: impl FnMut(&History) -> bool) -> H
         keep(&mut best, less, &mut differs);
     }
     if best.given != 0 {
-        let less = History { given: 0, ..best.clone() };
-        keep(&mut best, less, &mut differs);
+        let none = History { given: 0, ..best.clone() };
+        if !keep(&mut best, none, &mut differs) {
+            let all = History { given: u32::MAX, ..best.clone() };
+            if keep(&mut best, all, &mut differs) {
+                fewer_events(&mut best, &mut differs);
+            }
+        }
     }
     best
 }

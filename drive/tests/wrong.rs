@@ -9,7 +9,7 @@ use drive::write::read_number;
 use std::collections::HashMap;
 
 /// Seeds of the fixed set that `./test` runs.
-const SEEDS: std::ops::RangeInclusive<u64> = 1..=446;
+const SEEDS: std::ops::RangeInclusive<u64> = 1..=447;
 
 #[derive(Clone, Copy, Debug, PartialEq)]
 enum Fault {
@@ -29,6 +29,14 @@ enum Fault {
     ShortIsTaken,
     /// A KEY that is refused by POLICY changes the state.
     PolicyChanges,
+    /// A row with a name length of 0 or above 64 matches.
+    OddRowMatches,
+    /// The 256th row is not read.
+    LastRowUnread,
+    /// SPENT is told as NO RUN.
+    SpentIsNoRun,
+    /// SHORT comes before NOT OPEN.
+    ShortBeforeNotOpen,
 }
 
 struct Wrong {
@@ -47,6 +55,20 @@ fn number(value: u64) -> Vec<u8> {
 impl Wrong {
     fn new(fault: Fault) -> Self {
         Wrong { fault, inner: Twin::default(), starts: HashMap::new(), clock: 0 }
+    }
+
+    /// The history with the rows that the inner server is given in place of its own.
+    fn other_rows(&self, history: &History) -> History {
+        let mut rows = history.rows.clone();
+        if self.fault == Fault::LastRowUnread {
+            rows.truncate(255);
+        } else {
+            for row in &mut rows {
+                row.peer_length = row.peer_length.clamp(1, 64);
+                row.fqdn_length = row.fqdn_length.clamp(1, 64);
+            }
+        }
+        History { rows, events: vec![], ..history.clone() }
     }
 
     /// The body that the inner server is given in place of this one.
@@ -93,6 +115,8 @@ impl Server for Wrong {
             let taken = self.inner.event(history, &given, &mut longer);
             out.copy_from_slice(&longer[..159]);
             taken
+        } else if matches!(self.fault, Fault::OddRowMatches | Fault::LastRowUnread) {
+            self.inner.event(&self.other_rows(history), &given, out)
         } else {
             self.inner.event(history, &given, out)
         };
@@ -113,6 +137,8 @@ impl Server for Wrong {
             Fault::RefusalWrites if refused != 0 && !out.is_empty() => out[0] = 0,
             Fault::OtherNumber if refused == 4 => refused = 7,
             Fault::PolicyChanges if refused == 16 => memory = Memory::Changed,
+            Fault::SpentIsNoRun if refused == 5 => refused = 6,
+            Fault::ShortBeforeNotOpen if refused == 1 && out.len() < 160 => refused = 2,
             _ => {}
         }
         (refused, length, memory)
@@ -135,14 +161,18 @@ fn cut(fault: Fault) -> History {
 #[test]
 fn each_fault_is_found_and_cut() {
     for (fault, events, rows) in [
-        (Fault::LapsesLate, 2, 0),    // START, ABORT
-        (Fault::SpareBitsPass, 4, 1), // START, VECTOR, RESPONSE, KEY
-        (Fault::KeyRecords, 5, 1),    // a sign-in, KEY, and anything before its time
-        (Fault::WritesOn, 1, 0),      // START
-        (Fault::RefusalWrites, 1, 0), // FORM
-        (Fault::OtherNumber, 2, 0),   // START, and anything before its time
-        (Fault::ShortIsTaken, 1, 0),  // START
-        (Fault::PolicyChanges, 4, 1), // a sign-in, KEY
+        (Fault::LapsesLate, 2, 0),         // START, ABORT
+        (Fault::SpareBitsPass, 4, 1),      // START, VECTOR, RESPONSE, KEY
+        (Fault::KeyRecords, 5, 1),         // a sign-in, KEY, and anything before its time
+        (Fault::WritesOn, 1, 0),           // START
+        (Fault::RefusalWrites, 1, 0),      // FORM
+        (Fault::OtherNumber, 2, 0),        // START, and anything before its time
+        (Fault::ShortIsTaken, 1, 0),       // START
+        (Fault::PolicyChanges, 4, 1),      // a sign-in, KEY
+        (Fault::OddRowMatches, 1, 1),      // KEY
+        (Fault::LastRowUnread, 1, 256),    // KEY
+        (Fault::SpentIsNoRun, 1, 0),       // START
+        (Fault::ShortBeforeNotOpen, 1, 0), // anything
     ] {
         let cut = cut(fault);
         assert_eq!((cut.events.len(), cut.rows.len()), (events, rows), "{fault:?}\n{}", cut.dump());

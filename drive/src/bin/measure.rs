@@ -113,6 +113,8 @@ const CASES: &[Case] = &[
     case("refused by NOT YOURS, 16 rows", What::NotYours, 16, 16, 15),
 ];
 
+const BATCHES: &str = "the morning load, in batches";
+
 fn shelf(place: usize) -> Vec<u8> {
     format!("shelf-{place}.campus.example").into_bytes()
 }
@@ -302,7 +304,7 @@ fn time(turns: usize) {
         println!("{}\t{:.0}\t{:.0}", case.name, best[0], best[1]);
     }
     let (proved, twin) = batches(turns);
-    println!("the morning load, in batches\t{proved:.0}\t{twin:.0}");
+    println!("{BATCHES}\t{proved:.0}\t{twin:.0}");
 }
 
 /// The morning load as `bench/morning` has it: opening part, then events.
@@ -370,39 +372,60 @@ fn used() -> f64 {
     time[0] as f64 * 1e9 + time[1] as f64
 }
 
-/// Nanoseconds an event through `pr_serve` and through the independent server's program, without input and output.
-fn batches(turns: usize) -> (f64, f64) {
-    let (input, opening) = morning(40_000);
+/// The lines of an input through `pr_serve`, 64 KiB at a time.
+#[inline(never)]
+fn measured_proved(input: &[u8], opening: usize, lines: &mut Vec<u8>) {
     let shelf = library::shelf(&rows(16));
-    let (mut best, mut expected) = ([f64::MAX; 2], vec![]);
-    let (mut out, mut lines) = (vec![0; 65_536], vec![0; 16 << 20]);
-    for turn in 0..turns {
-        let before = used();
-        lines.clear();
-        twin::serve(black_box(&input[..]), &mut lines).unwrap_or(());
-        let count = lines.iter().filter(|&&octet| octet == b'\n').count() as f64;
-        best[1] = best[1].min((used() - before) / count);
-        if turn == 0 {
-            expected = lines.clone();
+    let mut out = vec![0; 65_536];
+    let mut state = library::State::new();
+    library::open(&mut state, DOMAIN, RESTART, LIFETIME);
+    let (mut at, mut place) = (opening, 1);
+    loop {
+        let end = input.len().min(at + 65_536);
+        let done = library::serve(&mut state, &shelf, place, &input[at..end], &mut out);
+        lines.extend_from_slice(&out[..done.length]);
+        (at, place) = (at + done.at, done.place);
+        if done.number == 3 || done.number == 0 && end == input.len() {
+            break;
         }
-        let before = used();
+    }
+}
+
+/// The lines of an input through the independent server's program.
+#[inline(never)]
+fn measured_twin(input: &[u8], lines: &mut Vec<u8>) {
+    twin::serve(input, lines).unwrap_or(());
+}
+
+/// Nanoseconds an event in batches, without input and output.
+fn batches(turns: usize) -> (f64, f64) {
+    let (input, opening) = morning(41_600);
+    let (mut lines, mut expected) = (vec![0; 16 << 20], vec![0; 16 << 20]);
+    let mut best = [f64::MAX; 2];
+    for _ in 0..turns {
         lines.clear();
-        let mut state = library::State::new();
-        library::open(&mut state, DOMAIN, RESTART, LIFETIME);
-        let (mut at, mut place) = (opening, 1);
-        loop {
-            let end = input.len().min(at + 65_536);
-            let done = library::serve(&mut state, &shelf, place, black_box(&input[at..end]), &mut out);
-            lines.extend_from_slice(&out[..done.length]);
-            (at, place) = (at + done.at, done.place);
-            if done.number == 3 || done.number == 0 && end == input.len() {
-                break;
-            }
-        }
-        best[0] = best[0].min((used() - before) / count);
+        expected.clear();
+        let before = used();
+        measured_proved(black_box(&input), opening, &mut lines);
+        let between = used();
+        measured_twin(black_box(&input), &mut expected);
+        let after = used();
+        best = [best[0].min(between - before), best[1].min(after - between)];
         assert!(lines == expected, "the lines differ");
     }
-    (best[0], best[1])
+    let count = lines.iter().filter(|&&octet| octet == b'\n').count() as f64;
+    (best[0] / count, best[1] / count)
+}
+
+/// Events in batches, for a counter of instructions. `count` is a multiple of the 208 that sixteen students make.
+fn count_batches(side: &str, count: usize) {
+    let (input, opening) = morning(count);
+    let mut lines = Vec::with_capacity(1 << 20);
+    match side {
+        "proved" => measured_proved(&input, opening, &mut lines),
+        _ => measured_twin(&input, &mut lines),
+    }
+    assert_eq!(lines.iter().filter(|&&octet| octet == b'\n').count(), count);
 }
 
 extern "C" {
@@ -480,6 +503,7 @@ fn main() {
         ["time", turns] => time(turns.parse().unwrap_or(20)),
         ["cases"] => CASES.iter().for_each(|case| println!("{}", case.name)),
         ["size"] => size(),
+        ["count", side, BATCHES, count] => count_batches(side, count.parse().unwrap_or(208)),
         ["count", side, name, count] => match (side, found(name), count.parse()) {
             ("proved", Some(case), Ok(count)) => Bench::<Proved>::new(case).count(count),
             ("twin", Some(case), Ok(count)) => Bench::<Twin>::new(case).count(count),
