@@ -39,7 +39,3 @@ unfolding opens
 met-opens s restart last t i impi copy row len old new p q w g =
     let e = ap₂ (λ (a b : ℕ). opened a (b + 1) (copy .timestamp)) (sym p) (sym q) in
     met-answered s _ old _ _ (started s t i row) len new (subst (λ (a : Answer). Wrote (encodeOf a) len old new) e w) (ap (started s t i) (g ∙ ap (λ (b : ℕ). startedRun (b + 1) t (nameOf impi) copy) (sym q))) refl
-
--- a state that is another
-pub met-state : (s : State) (o : Result Done) (old new : List ℕ) (reply : Reply) (v v′ : State) → v ≡ v′ → Met s o old (record { state = v′; reply = reply }) new → Met s o old (record { state = v; reply = reply }) new
-met-state s o old new reply v v′ e m = subst⁻¹ (λ (u : State). Met s o old (record { state = u; reply = reply }) new) e m

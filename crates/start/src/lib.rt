@@ -1,5 +1,4 @@
 // START: document 01, "What each event does". It opens a run, and offers the settings of the student's live session.
-use flow::Found;
 use flow::Reply;
 use names::Name;
 use outcome::Outcome;
@@ -103,32 +102,32 @@ pub fn start(state: State, time: u64, impi: &[u8], out: &mut [u8]) -> Outcome
     requires { ⌜ ROOM ≤ length (now out) ⌝ }
     ensures { λ r. ⌜ Met state (startRule state time (now (impi .entry))) (now (out .entry)) r (now (out .exit)) ⌝ }
 {
-    if time < state.clock.0 {
-        return Outcome {
-            state: state,
-            reply: Reply { no: 4, len: 0 },
-        };
-    }
-    if state.last < LAST {} else {
-        return Outcome {
-            state: state,
-            reply: Reply { no: 5, len: 0 },
-        };
-    }
     let runs = state.runs;
-    let Found::At(i) = runs.free(time) else {
-        return Outcome {
-            state: state,
-            reply: Reply { no: 6, len: 0 },
-        };
-    };
-    let copy = state.offered(impi, time);
-    let opened = opens(state.restart, state.last, time, impi, copy, out);
-    let row = opened.row;
-    let next = state.started(time, i, row);
+    let sessions = state.sessions;
+    let i = sought::place(runs.free(time), RUNS);
+    let j = sought::place(sessions.own(impi, time), SESSIONS);
+    let session = sessions.at(j);
+    let opened = reply(
+        state.restart,
+        state.clock.0,
+        state.last,
+        time,
+        i,
+        j,
+        session,
+        impi,
+        out,
+    );
     let told = opened.reply;
+    if told.no == 0 {
+        let next = state.started(time, i, opened.row);
+        return Outcome {
+            state: next,
+            reply: told,
+        };
+    }
     Outcome {
-        state: next,
+        state: state,
         reply: told,
     }
 }

@@ -1,39 +1,32 @@
--- Each refusal is a line of the rule; the last stage has its own proof.
-use mathlib.Core.Path.{refl, ap}
-use Rattle.flow.proofs.Chains.{passes-above, passes-found}
-use Rattle.outcome.proofs.Laws.{rules, met-stage, passes-below}
-use Rattle.rules.specs.Start.{startRule, opens}
-use Rattle.start.proofs.Laws.{met-state}
+-- The searches end where the methods say; what a START gets then is the rule's.
+use mathlib.Core.Path.{refl}
+use Rattle.records.specs.Rows.{noRun, noSession, isOwn}
+use Rattle.tables.specs.Tables.{isFree}
+use Rattle.tables.proofs.Laws.{state-runs-long, state-sessions-long}
+use Rattle.outcome.proofs.Laws.{met-state}
+use Rattle.sought.proofs.Laws.{ends-found}
+use Rattle.start.specs.Replies.{Looks}
 use borrow.Author.Needs.{needs}
 use Rattle.start.proofs.start.Statement.{statement}
 use Rattle.start.proofs.start.Tie as tie
 
-returns : tie.Need-returns
-unfolding startRule
-returns c = search (rules, needs) depth 12
-
-returns-2 : tie.Need-returns-2
-unfolding startRule
-returns-2 c = search (rules, needs) depth 12
-
 free-requires : tie.Need-free-requires
 free-requires c κs = search needs
 
-enum-known-i : tie.Need-enum-known-i
-enum-known-i c = search needs
+place-requires : tie.Need-place-requires
+place-requires c κs = search needs
 
-enum-told : tie.Need-enum-told
-enum-told c = search needs
+own-requires : tie.Need-own-requires
+own-requires c κs = search needs
 
-returns-3 : tie.Need-returns-3
-unfolding startRule
-returns-3 c = search (rules, needs) depth 12
+place-requires-2 : tie.Need-place-requires-2
+place-requires-2 c κs = search needs
 
-offered-requires : tie.Need-offered-requires
-offered-requires c κs = search needs
+at-requires : tie.Need-at-requires
+at-requires c κs = search needs
 
-opens-requires : tie.Need-opens-requires
-opens-requires c κs = search needs
+reply-requires : tie.Need-reply-requires
+reply-requires c κs = search needs
 
 started-requires : tie.Need-started-requires
 started-requires c κs = search needs
@@ -41,27 +34,49 @@ started-requires c κs = search needs
 same-length : tie.Need-same-length
 same-length c = search needs
 
-returns-4 : tie.Need-returns-4
-unfolding startRule
-returns-4 c =
-    let z = c .before .before .before .before .before .before .before .before .before .before .before .before .before .before .before .before .before .before .before .args in
-    met-state _ _ _ _ _ _ _ (c .before .started .ensures)
-    (met-stage _ _ _ _ _ _ (c .before .before .before .before .before .opens .ensures .met (z .state) _ refl refl)
-    (passes-above _ _ _ _ _ (c .before .before .before .before .before .before .before .before .before .before .before .before .before .before .before .if1 .left) (passes-below _ _ _ _ _ (c .before .before .before .before .before .before .before .before .before .before .before .before .before .if2 .taken)
-    (passes-found _ _ _ _ (c .before .before .before .before .before .before .before .before .before .before .before .free .ensures) _ _ (c .before .before .before .before .before .before .before .before .before .i .given .1) (ap (opens _ _ _ _) (c .before .before .before .before .before .before .before .offered .ensures))))))
+returns : tie.Need-returns
+returns c =
+    let z = c .before .before .before .before .before .before .before .before .before .before .before .before .before .before .before .before .before in
+    let s = z .args .state in
+    let l : Looks (s .restart) (s .clock .0) (s .last) (z .args .time) (c .before .before .before .before .before .before .before .before .before .before .before .place .result) (c .before .before .before .before .before .before .before .before .before .place2 .result) (c .before .before .before .before .before .before .before .before .at .result) (z .args .impi .now) s =
+        record {
+          restart-is = refl;
+          clock-is = refl;
+          last-is = refl;
+          free = ends-found (isFree (z .args .time)) (s .runs .rows) 32 _ noRun _ (state-runs-long s _ (z .good .0)) _ (c .before .before .before .before .before .before .before .before .before .before .before .before .free .ensures) (c .before .before .before .before .before .before .before .before .before .before .before .place .ensures) refl;
+          own = ends-found (isOwn (z .args .impi .now) (z .args .time)) (s .sessions .rows) 64 _ noSession _ (state-sessions-long s _ (z .good .0)) _ (c .before .before .before .before .before .before .before .before .before .before .own .ensures) (c .before .before .before .before .before .before .before .before .before .place2 .ensures) (c .before .before .before .before .before .before .before .before .at .ensures);
+        } in
+    met-state _ _ _ _ _ _ _ (c .started .ensures) (c .before .before .before .before .before .before .reply .ensures s l .answered (c .before .if1 .taken) .1)
+
+same-length-2 : tie.Need-same-length-2
+same-length-2 c = search needs
+
+returns-2 : tie.Need-returns-2
+returns-2 c =
+    let z = c .before .before .before .before .before .before .before .before .before .before .before .before .before .before .before .before in
+    let s = z .args .state in
+    let l : Looks (s .restart) (s .clock .0) (s .last) (z .args .time) (c .before .before .before .before .before .before .before .before .before .before .place .result) (c .before .before .before .before .before .before .before .before .place2 .result) (c .before .before .before .before .before .before .before .at .result) (z .args .impi .now) s =
+        record {
+          restart-is = refl;
+          clock-is = refl;
+          last-is = refl;
+          free = ends-found (isFree (z .args .time)) (s .runs .rows) 32 _ noRun _ (state-runs-long s _ (z .good .0)) _ (c .before .before .before .before .before .before .before .before .before .before .before .free .ensures) (c .before .before .before .before .before .before .before .before .before .before .place .ensures) refl;
+          own = ends-found (isOwn (z .args .impi .now) (z .args .time)) (s .sessions .rows) 64 _ noSession _ (state-sessions-long s _ (z .good .0)) _ (c .before .before .before .before .before .before .before .before .before .own .ensures) (c .before .before .before .before .before .before .before .before .place2 .ensures) (c .before .before .before .before .before .before .before .at .ensures);
+        } in
+    c .before .before .before .before .before .reply .ensures s l .refused (c .if1 .left)
 
 pub start-spec : {M : Type 1} → statement M
 start-spec =
     tie.close
     (tie.spec
-    returns
-    returns-2
     free-requires
-    enum-known-i
-    enum-told
-    returns-3
-    offered-requires
-    opens-requires
+    place-requires
+    own-requires
+    place-requires-2
+    at-requires
+    reply-requires
     started-requires
     same-length
-    returns-4)
+    returns
+    same-length-2
+    returns-2)
