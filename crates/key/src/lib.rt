@@ -204,31 +204,22 @@ pub fn key(
     requires { ⌜ (ROOM ≤ length (now out)) × (length (now naf) ≤ NAME + UA) ⌝ }
     ensures { λ r. ⌜ Met state (keyRule (keyFor (now (naf .entry))) state policy time (now (text .entry)) application) (now (out .entry)) r (now (out .exit)) ⌝ }
 {
-    if time < state.clock.0 {
-        return Outcome {
-            state: state,
-            reply: Reply { no: 4, len: 0 },
-        };
-    }
-    let found = policy.found;
-    if found {} else {
-        return Outcome {
-            state: state,
-            reply: Reply { no: 14, len: 0 },
-        };
-    }
     let sessions = state.sessions;
     let domain = state.domain;
-    let Found::At(j) = named(sessions, text, domain, time) else {
-        return Outcome {
-            state: state,
-            reply: Reply { no: 15, len: 0 },
-        };
-    };
+    let j = sought::place(named(sessions, text, domain, time), SESSIONS);
     let session = sessions.at(j);
-    let granted = grants(policy, application, naf, session, out);
+    let told = reply(
+        state.clock.0,
+        policy,
+        time,
+        j,
+        session,
+        naf,
+        application,
+        out,
+    );
     Outcome {
         state: state,
-        reply: granted,
+        reply: told,
     }
 }

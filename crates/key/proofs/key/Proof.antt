@@ -1,64 +1,37 @@
--- Each refusal is a line of the rule; the last stage has its own proof.
-use mathlib.Core.Path.{ap}
-use Rattle.flow.proofs.Chains.{passes-above, passes-set, passes-found}
-use Rattle.records.specs.declared.Session.{Session}
-use Rattle.outcome.proofs.Laws.{rules, met-stage}
-use Rattle.rules.specs.Key.{grants, keyFor, keyRule}
-use native.Mathlib.Omega.{arith}
+-- The search ends where it says; what a KEY gets then is the rule's, and the state stays.
+use mathlib.Core.Path.{refl}
+use Rattle.names.specs.Name.{octetsOf}
+use Rattle.records.specs.Rows.{noSession}
+use Rattle.tables.proofs.Laws.{state-sessions-long}
+use Rattle.rules.specs.Key.{isNamed}
+use Rattle.sought.proofs.Laws.{ends-found}
 use borrow.Author.Needs.{needs}
 use Rattle.key.proofs.key.Statement.{statement}
 use Rattle.key.proofs.key.Tie as tie
 
-returns : tie.Need-returns
-unfolding keyRule
-returns c = search (rules, needs) depth 12
-
-returns-2 : tie.Need-returns-2
-unfolding keyRule
-returns-2 c = search (rules, needs) depth 12
-
 named-requires : tie.Need-named-requires
 named-requires c κs = search needs
 
-enum-known-j : tie.Need-enum-known-j
-enum-known-j c = search needs
-
-enum-told : tie.Need-enum-told
-enum-told c = search needs
-
-returns-3 : tie.Need-returns-3
-unfolding keyRule
-returns-3 c = search (rules, needs) depth 12
+place-requires : tie.Need-place-requires
+place-requires c κs = search needs
 
 at-requires : tie.Need-at-requires
 at-requires c κs = search needs
 
-grants-requires : tie.Need-grants-requires
-grants-requires c κs = search needs
+reply-requires : tie.Need-reply-requires
+reply-requires c κs = search needs
 
 same-length : tie.Need-same-length
 same-length c = search needs
 
-returns-4 : tie.Need-returns-4
-unfolding keyRule
-returns-4 c =
-    let z = c .before .before .before .before .before .before .before .before .before .before .before .before .before .before .before .before .before in
-    met-stage _ _ _ _ _ _ (c .before .before .grants .ensures (z .args .state))
-    (passes-above _ _ _ _ _ (c .before .before .before .before .before .before .before .before .before .before .before .before .if1 .left) (passes-set _ _ _ _ (c .before .before .before .before .before .before .before .before .before .before .before .if2 .taken)
-    (passes-found _ _ _ _ (c .before .before .before .before .before .before .before .before .named .ensures) _ _ (c .before .before .before .before .before .before .j .given .1)
-    (ap (λ (x : Session). grants (z .args .state) (z .args .policy) (z .args .application) (keyFor (z .args .naf .now) x) x) (c .before .before .before .before .at .ensures)))))
+returns : tie.Need-returns
+returns c =
+    let z = c .before .before .before .before .before .before .before .before .before .before .before .before in
+    let s = z .args .state in
+    c .before .before .reply .ensures s (z .args .text .now) refl
+    (ends-found (isNamed (z .args .text .now) (octetsOf (s .domain)) (z .args .time)) (s .sessions .rows) 64 _ noSession _ (state-sessions-long s _ (z .good .0)) _ (c .before .before .before .before .before .before .named .ensures) (c .before .before .before .before .before .place .ensures) (c .before .before .before .before .at .ensures))
 
 pub key-spec : {M : Type 1} → statement M
 key-spec =
     tie.close
-    (tie.spec
-    returns
-    returns-2
-    named-requires
-    enum-known-j
-    enum-told
-    returns-3
-    at-requires
-    grants-requires
-    same-length
-    returns-4)
+    (tie.spec named-requires place-requires at-requires reply-requires same-length returns)
