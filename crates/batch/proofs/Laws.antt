@@ -29,6 +29,8 @@ use Rattle.event.specs.declared.Event.{Event}
 use Rattle.event.specs.declared.Event.the-variants.{Key, Bad as BadEvent}
 use Rattle.records.specs.Time.{moment}
 use Rattle.records.specs.declared.Lifetime.{Lifetime}
+use Rattle.records.specs.declared.Run.{Run}
+use Rattle.tables.specs.Tables.{putRun}
 use Rattle.tables.specs.State.{started, filled, ended, established}
 use Rattle.tables.specs.declared.Runs.{Runs}
 use Rattle.tables.specs.declared.Sessions.{Sessions}
@@ -81,14 +83,6 @@ module _ (s : State) (o : Result Done) (old new : List ℕ) (r : Outcome) (m : M
   pub state-is : r .state ≡ stateOf s o
   unfolding outcomeOf
   state-is = ap (λ (x : Outcome). x .state) (m .outcome)
-
--- ---- what owning the state tells of its tables
-
-pub state-runs-long : (h : State) (vs : List Val) → Is (row State·.the-type) h vs → length (h .runs .rows) ≡ 32
-state-runs-long h vs g = length-mapped (Run·.the-type .to) (h .runs .rows) 32 (g .1 .1 .1 .1 .1 .1 .1 .1 .0 .1 .1 .0 .1 .0 .1)
-
-pub state-sessions-long : (h : State) (vs : List Val) → Is (row State·.the-type) h vs → length (h .sessions .rows) ≡ 64
-state-sessions-long h vs g = length-mapped (Session·.the-type .to) (h .sessions .rows) 64 (g .1 .1 .1 .1 .1 .1 .1 .1 .1 .0 .1 .1 .0 .1 .0 .1)
 
 -- ---- one event
 
@@ -154,6 +148,20 @@ module _ (t : State) (shelf : Shelf) (body old : List ℕ) (n : length old ≡ 1
             runs-long = a;
             sessions-long = b;
           }
+
+      -- with the next state at hand
+      module _ (o : Result Done) (reply : Reply) (e : o ≡ rule t policy-is body (decoded body)) where
+        stepped-next : (next : State) → Met t o old (record { state = next; reply = reply }) new → length (next .runs .rows) ≡ 32 → length (next .sessions .rows) ≡ 64
+            → Stepped t shelf body old next reply new
+        stepped-next next m k j = record { met = met-stage _ _ _ _ _ _ m (e ∙ rule-done); room = n; long = l; runs-long = k; sessions-long = j }
+
+        pub stepped-refused : Met t o old (record { state = t; reply = reply }) new → Stepped t shelf body old t reply new
+        stepped-refused m = stepped-next t m a b
+
+        pub stepped-started : (time i : ℕ) (r : Run) → Met t o old (record { state = started t time i r; reply = reply }) new
+            → Stepped t shelf body old (packed (t .ready) (t .domain) (t .restart) (t .lifetime) time (r .number) (putRun (t .runs) i r) (t .sessions)) reply new
+        unfolding started
+        stepped-started time i r m = stepped-next _ m (length-set (t .runs .rows) i r ∙ a) b
 
       -- by a function that takes the state and hands the next one back
       pub stepped-state : (o : Result Done) (r : Outcome) → Met t o old r new → o ≡ rule t policy-is body (decoded body)

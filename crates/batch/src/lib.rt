@@ -17,6 +17,9 @@ ghost use Rattle.batch.specs.Batch.{LINE, Lined, badLine, Served};
 // The room for an answer.
 const ROOM: usize = 160;
 
+// The rows of the two tables.
+const RUNS: usize = 32;
+
 const SESSIONS: usize = 64;
 
 // The room that the longest line needs.
@@ -98,28 +101,41 @@ pub fn serve(
                             impi,
                             impi_end,
                         } => {
-                            let now = State {
-                                ready,
-                                domain,
+                            let mut i: usize = 0;
+                            while i < RUNS {
+                                let row = runs.rows[i];
+                                if row.is_open(time) {} else {
+                                    break;
+                                }
+                                i += 1;
+                            }
+                            let mut j: usize = 0;
+                            while j < SESSIONS {
+                                let row = sessions.rows[j];
+                                if row.is_own(&body[impi..impi_end], time) {
+                                    break;
+                                }
+                                j += 1;
+                            }
+                            let session = sessions.rows[j % SESSIONS];
+                            let opened = start::reply(
                                 restart,
-                                lifetime,
-                                clock: Moment(clock),
+                                clock,
                                 last,
-                                runs,
-                                sessions,
-                            };
-                            let outcome = start::start(
-                                now,
                                 time,
+                                i,
+                                j,
+                                session,
                                 &body[impi..impi_end],
                                 &mut buffer,
                             );
-                            reply = outcome.reply;
-                            let next = outcome.state;
-                            clock = next.clock.0;
-                            last = next.last;
-                            runs = next.runs;
-                            sessions = next.sessions;
+                            reply = opened.reply;
+                            if reply.no == 0 {
+                                let row = opened.row;
+                                runs.rows[i % RUNS] = row;
+                                last = row.number;
+                                clock = time;
+                            }
                         }
                         Event::Vector {
                             time,

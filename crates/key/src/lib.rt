@@ -182,8 +182,8 @@ pub fn reply(
     if time < clock {
         return Reply { no: 4, len: 0 };
     }
-    let found = policy.found;
-    if found {} else {
+    let listed = policy.found;
+    if listed {} else {
         return Reply { no: 14, len: 0 };
     }
     if SESSIONS <= j {

@@ -17,9 +17,17 @@ ghost use Rattle.start.specs.Replies.{Offered, Opens, Replied};
 // The last run number.
 const LAST: u64 = 4294967295;
 
+// The rows of the two tables.
 const RUNS: usize = 32;
 
 const SESSIONS: usize = 64;
+
+// Its refusals.
+const CLOCK: u32 = 4;
+
+const SPENT: u32 = 5;
+
+const NO_RUN: u32 = 6;
 
 // The reply, and the run that an answer opens.
 pub struct Opened {
@@ -78,19 +86,19 @@ pub fn reply(
     let none = Run::none();
     if time < clock {
         return Opened {
-            reply: Reply { no: 4, len: 0 },
+            reply: Reply { no: CLOCK, len: 0 },
             row: none,
         };
     }
     if last < LAST {} else {
         return Opened {
-            reply: Reply { no: 5, len: 0 },
+            reply: Reply { no: SPENT, len: 0 },
             row: none,
         };
     }
     if RUNS <= i {
         return Opened {
-            reply: Reply { no: 6, len: 0 },
+            reply: Reply { no: NO_RUN, len: 0 },
             row: none,
         };
     }
