@@ -157,33 +157,54 @@ pub fn serve(
                         } => {
                             let q = brought::quintet_of(body, rand, autn, xres, xres_end, ck, ik);
                             let given = brought::settings_of(body, long, timestamp, count, entries);
-                            let now = State {
-                                ready,
-                                domain,
+                            let sent = q.rand;
+                            let mut i: usize = 0;
+                            while i < RUNS {
+                                let row = runs.rows[i];
+                                if row.is_run(run, time) {
+                                    break;
+                                }
+                                i += 1;
+                            }
+                            let mut j: usize = 0;
+                            while j < SESSIONS {
+                                let row = sessions.rows[j];
+                                if row.has_rand(&sent, time) {
+                                    break;
+                                }
+                                j += 1;
+                            }
+                            let mut k: usize = 0;
+                            while k < RUNS {
+                                let row = runs.rows[k];
+                                if row.is_other(run, &sent, time) {
+                                    break;
+                                }
+                                k += 1;
+                            }
+                            let found = runs.rows[i % RUNS];
+                            let filled = vector::reply(
                                 restart,
-                                lifetime,
-                                clock: Moment(clock),
-                                last,
-                                runs,
-                                sessions,
-                            };
-                            let outcome = vector::vector(
-                                now,
+                                clock,
                                 time,
                                 named,
                                 run,
+                                i,
+                                found,
+                                j,
+                                k,
                                 &body[impi..impi_end],
                                 q,
                                 kind,
                                 given,
                                 &mut buffer,
                             );
-                            reply = outcome.reply;
-                            let next = outcome.state;
-                            clock = next.clock.0;
-                            last = next.last;
-                            runs = next.runs;
-                            sessions = next.sessions;
+                            reply = filled.reply;
+                            if reply.no == 0 {
+                                let row = filled.row;
+                                runs.rows[i % RUNS] = row;
+                                clock = time;
+                            }
                         }
                         Event::Response {
                             time,
