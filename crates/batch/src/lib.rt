@@ -299,7 +299,7 @@ pub fn serve(
                             );
                         }
                         Event::Bad => {
-                            reply = Reply { no: 3, len: 0 };
+                            reply = Reply { no: FORM, len: 0 };
                         }
                     }
                 }

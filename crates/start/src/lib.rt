@@ -47,14 +47,7 @@ fn offered(j: usize, session: Session) -> Settings
 }
 
 // The next run is opened.
-fn opens(
-    restart: u64,
-    last: u64,
-    time: u64,
-    impi: &[u8],
-    copy: Settings,
-    out: &mut [u8],
-) -> Opened
+fn opens(restart: u64, last: u64, time: u64, impi: &[u8], copy: Settings, out: &mut [u8]) -> Opened
     requires { ⌜ (last ≤ LAST) × (ROOM ≤ length (now out)) ⌝ }
     ensures { λ r. ⌜ Opens restart last time (now (impi .entry)) copy (now (out .entry)) r (now (out .exit)) ⌝ }
 {

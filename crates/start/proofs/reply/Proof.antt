@@ -63,11 +63,12 @@ returns-4 c =
     λ s k.
     record {
       refused = λ h. absurd (h (o .answered));
-      answered = λ h.
-          (e .if3 .left,
-          met-stage s _ _ _ _ _ (o .met s (z .i) (k .restart-is) (k .last-is))
-          (passes-above _ _ _ (z .time) (s .clock .0) (omega (arith, k .clock-is, e .before .before .if1 .left)) (passes-below _ _ (s .last) LAST _ (omega (arith, k .last-is, e .before .if2 .taken))
-          (passes-found _ _ _ _ refl _ _ (k .free .here (e .if3 .left)) (ap (opens s (z .time) (z .i) (z .impi .now)) (offered-is s _ _ _ _ _ (f .offered .ensures) (k .own)))))));
+      answered = λ h. (
+        e .if3 .left,
+        met-stage s _ _ _ _ _ (o .met s (z .i) (k .restart-is) (k .last-is))
+            (passes-above _ _ _ (z .time) (s .clock .0) (omega (arith, k .clock-is, e .before .before .if1 .left)) (passes-below _ _ (s .last) LAST _ (omega (arith, k .last-is, e .before .if2 .taken))
+            (passes-found _ _ _ _ refl _ _ (k .free .here (e .if3 .left)) (ap (opens s (z .time) (z .i) (z .impi .now)) (offered-is s _ _ _ _ _ (f .offered .ensures) (k .own)))))),
+      );
     }
 
 pub reply-spec : {M : Type 1} → statement M
