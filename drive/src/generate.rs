@@ -103,6 +103,7 @@ pub fn history(seed: u64) -> History {
     let length = match world.theme {
         Theme::Sessions => world.draw.between(260, 520),
         Theme::Runs => world.draw.between(60, 300),
+        Theme::Closed if world.history.program => world.draw.between(1, 6),
         Theme::Closed => world.draw.between(5, 60),
         _ => world.draw.between(20, 400),
     };
@@ -131,7 +132,7 @@ impl World {
             (16, Theme::Keys),
             (14, Theme::Settings),
             (8, Theme::Damage),
-            (if program { 8 } else { 3 }, Theme::Closed),
+            (if program { 30 } else { 3 }, Theme::Closed), // an event program reads openings in many forms
         ];
         if !program {
             themes.push((3, Theme::Spent));

@@ -9,7 +9,7 @@ use drive::write::read_number;
 use std::collections::HashMap;
 
 /// Seeds of the fixed set that `./test` runs.
-const SEEDS: std::ops::RangeInclusive<u64> = 1..=447;
+const SEEDS: std::ops::RangeInclusive<u64> = 1..=485;
 
 #[derive(Clone, Copy, Debug, PartialEq)]
 enum Fault {

@@ -92,7 +92,7 @@ impl World {
 }
 
 pub(super) fn spoil_opening(draw: &mut Draw, history: &mut History) {
-    match draw.below(if history.program { 16 } else { 6 }) {
+    match draw.below(if history.program { 20 } else { 6 }) {
         0 => history.domain = vec![],
         1 => history.domain = vec![b'd'; draw.pick(&[65, 66, 127])],
         2 => history.restart = draw.pick(&[1 << 32, u64::MAX >> 1]),

@@ -59,7 +59,7 @@ pub(super) fn near_miss(draw: &mut Draw, name: &[u8]) -> Vec<u8> {
 
 pub(super) fn rows(draw: &mut Draw, program: bool, theme: Theme) -> Vec<twin::Row> {
     let count = match draw.below(20) {
-        0 if theme != Theme::Keys => 0,
+        0 if theme != Theme::Keys && theme != Theme::Closed => 0,
         1..=6 => 1,
         7..=11 => draw.between(2, 4),
         12..=13 => PROGRAM_ROWS,
