@@ -39,13 +39,13 @@ returns c =
     let z = c .before .before .before .before .before .before .before .before .before .before .before .before .before .before .before .before .before in
     let s = z .args .state in
     let l : Looks (s .restart) (s .clock .0) (s .last) (z .args .time) (c .before .before .before .before .before .before .before .before .before .before .before .place .result) (c .before .before .before .before .before .before .before .before .before .place2 .result) (c .before .before .before .before .before .before .before .before .at .result) (z .args .impi .now) s =
-        record {
-          restart-is = refl;
-          clock-is = refl;
-          last-is = refl;
-          free = ends-found (isFree (z .args .time)) (s .runs .rows) 32 _ noRun _ (state-runs-long s _ (z .good .0)) _ (c .before .before .before .before .before .before .before .before .before .before .before .before .free .ensures) (c .before .before .before .before .before .before .before .before .before .before .before .place .ensures) refl;
-          own = ends-found (isOwn (z .args .impi .now) (z .args .time)) (s .sessions .rows) 64 _ noSession _ (state-sessions-long s _ (z .good .0)) _ (c .before .before .before .before .before .before .before .before .before .before .own .ensures) (c .before .before .before .before .before .before .before .before .before .place2 .ensures) (c .before .before .before .before .before .before .before .before .at .ensures);
-        } in
+    record {
+      restart-is = refl;
+      clock-is = refl;
+      last-is = refl;
+      free = ends-found (isFree (z .args .time)) (s .runs .rows) 32 _ noRun _ (state-runs-long s _ (z .good .0)) _ (c .before .before .before .before .before .before .before .before .before .before .before .before .free .ensures) (c .before .before .before .before .before .before .before .before .before .before .before .place .ensures) refl;
+      own = ends-found (isOwn (z .args .impi .now) (z .args .time)) (s .sessions .rows) 64 _ noSession _ (state-sessions-long s _ (z .good .0)) _ (c .before .before .before .before .before .before .before .before .before .before .own .ensures) (c .before .before .before .before .before .before .before .before .before .place2 .ensures) (c .before .before .before .before .before .before .before .before .at .ensures);
+    } in
     met-state _ _ _ _ _ _ _ (c .started .ensures) (c .before .before .before .before .before .before .reply .ensures s l .answered (c .before .if1 .taken) .1)
 
 same-length-2 : tie.Need-same-length-2
@@ -56,13 +56,13 @@ returns-2 c =
     let z = c .before .before .before .before .before .before .before .before .before .before .before .before .before .before .before .before in
     let s = z .args .state in
     let l : Looks (s .restart) (s .clock .0) (s .last) (z .args .time) (c .before .before .before .before .before .before .before .before .before .before .place .result) (c .before .before .before .before .before .before .before .before .place2 .result) (c .before .before .before .before .before .before .before .at .result) (z .args .impi .now) s =
-        record {
-          restart-is = refl;
-          clock-is = refl;
-          last-is = refl;
-          free = ends-found (isFree (z .args .time)) (s .runs .rows) 32 _ noRun _ (state-runs-long s _ (z .good .0)) _ (c .before .before .before .before .before .before .before .before .before .before .before .free .ensures) (c .before .before .before .before .before .before .before .before .before .before .place .ensures) refl;
-          own = ends-found (isOwn (z .args .impi .now) (z .args .time)) (s .sessions .rows) 64 _ noSession _ (state-sessions-long s _ (z .good .0)) _ (c .before .before .before .before .before .before .before .before .before .own .ensures) (c .before .before .before .before .before .before .before .before .place2 .ensures) (c .before .before .before .before .before .before .before .at .ensures);
-        } in
+    record {
+      restart-is = refl;
+      clock-is = refl;
+      last-is = refl;
+      free = ends-found (isFree (z .args .time)) (s .runs .rows) 32 _ noRun _ (state-runs-long s _ (z .good .0)) _ (c .before .before .before .before .before .before .before .before .before .before .before .free .ensures) (c .before .before .before .before .before .before .before .before .before .before .place .ensures) refl;
+      own = ends-found (isOwn (z .args .impi .now) (z .args .time)) (s .sessions .rows) 64 _ noSession _ (state-sessions-long s _ (z .good .0)) _ (c .before .before .before .before .before .before .before .before .before .own .ensures) (c .before .before .before .before .before .before .before .before .place2 .ensures) (c .before .before .before .before .before .before .before .at .ensures);
+    } in
     c .before .before .before .before .before .reply .ensures s l .refused (c .if1 .left)
 
 pub start-spec : {M : Type 1} → statement M

@@ -113,12 +113,13 @@ returns-9 c =
     λ s l.
     record {
       refused = λ h. absurd (h (o .answered));
-      answered = λ h.
-          (c .before .before .before .before .before .before .before .before .before .before .before .before .before .if3 .left,
-          met-stage s _ _ _ _ _ (o .met s (z .time) (z .i))
-          (to-run _ _ _ _ _ _ _ _ _ _ s l _ _ _ (c .before .before .before .before .before .before .before .before .before .before .before .before .before .before .before .if1 .left) (c .before .before .before .before .before .before .before .before .before .before .before .before .before .before .if2 .left) (c .before .before .before .before .before .before .before .before .before .before .before .before .before .if3 .left) _
-          (passes _ _ _ _ (c .before .before .before .before .before .before .before .before .before .before .before .before .if4 .left) (passes-yes _ _ _ _ _ (c .before .before .before .before .before .before .before .before .before .before .is .ensures) (c .before .before .before .before .before .before .before .before .before .if5 .taken) (passes-no _ _ _ _ _ (c .before .before .before .before .before .before .before .before .no-copy .ensures) (c .before .before .before .before .before .before .before .if6 .left) (passes _ _ _ _ (unseen _ _ _ (z .named) _ _ _ _ _ (z .q) s l (c .before .before .before .before .before .before .if7 .left) (c .before .before .before .before .before .if8 .left))
-          (ap (λ (y : Settings). challenges s (z .time) (z .i) (z .q) y (z .row)) (c .before .before .before .before .chosen .ensures))))))));
+      answered = λ h. (
+        c .before .before .before .before .before .before .before .before .before .before .before .before .before .if3 .left,
+        met-stage s _ _ _ _ _ (o .met s (z .time) (z .i))
+            (to-run _ _ _ _ _ _ _ _ _ _ s l _ _ _ (c .before .before .before .before .before .before .before .before .before .before .before .before .before .before .before .if1 .left) (c .before .before .before .before .before .before .before .before .before .before .before .before .before .before .if2 .left) (c .before .before .before .before .before .before .before .before .before .before .before .before .before .if3 .left) _
+            (passes _ _ _ _ (c .before .before .before .before .before .before .before .before .before .before .before .before .if4 .left) (passes-yes _ _ _ _ _ (c .before .before .before .before .before .before .before .before .before .before .is .ensures) (c .before .before .before .before .before .before .before .before .before .if5 .taken) (passes-no _ _ _ _ _ (c .before .before .before .before .before .before .before .before .no-copy .ensures) (c .before .before .before .before .before .before .before .if6 .left) (passes _ _ _ _ (unseen _ _ _ (z .named) _ _ _ _ _ (z .q) s l (c .before .before .before .before .before .before .if7 .left) (c .before .before .before .before .before .if8 .left))
+            (ap (λ (y : Settings). challenges s (z .time) (z .i) (z .q) y (z .row)) (c .before .before .before .before .chosen .ensures))))))),
+      );
     }
 
 pub reply-spec : {M : Type 1} → statement M

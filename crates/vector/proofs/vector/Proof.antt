@@ -59,13 +59,13 @@ returns c =
     let n = state-runs-long s _ (z .good .0) in
     let m = state-sessions-long s _ (z .good .0) in
     let l : Looks (s .restart) (s .clock .0) (z .args .time) (z .args .run) (c .before .before .before .before .before .before .before .before .before .before .before .before .before .before .before .place .result) (c .before .before .before .before .before .before .before .before .before .before .before .before .before .before .at .result) (c .before .before .before .before .before .before .before .before .before .before .before .place2 .result) (c .before .before .before .before .before .before .before .before .place3 .result) (z .args .q .rand) s =
-        record {
-          restart-is = refl;
-          clock-is = refl;
-          run = ends-found (isRun (z .args .run) (z .args .time)) (s .runs .rows) 32 _ noRun _ n _ (c .before .before .before .before .before .before .before .before .before .before .before .before .before .before .before .before .find .ensures) (c .before .before .before .before .before .before .before .before .before .before .before .before .before .before .before .place .ensures) (c .before .before .before .before .before .before .before .before .before .before .before .before .before .before .at .ensures);
-          live = ends-found (hasRand (z .args .q .rand) (z .args .time)) (s .sessions .rows) 64 _ noSession _ m _ (c .before .before .before .before .before .before .before .before .before .before .before .before .with-rand .ensures) (c .before .before .before .before .before .before .before .before .before .before .before .place2 .ensures) refl;
-          other = ends-found (isOther (z .args .run) (z .args .q .rand) (z .args .time)) (s .runs .rows) 32 _ noRun _ n _ (c .before .before .before .before .before .before .before .before .before .other .ensures) (c .before .before .before .before .before .before .before .before .place3 .ensures) refl;
-        } in
+    record {
+      restart-is = refl;
+      clock-is = refl;
+      run = ends-found (isRun (z .args .run) (z .args .time)) (s .runs .rows) 32 _ noRun _ n _ (c .before .before .before .before .before .before .before .before .before .before .before .before .before .before .before .before .find .ensures) (c .before .before .before .before .before .before .before .before .before .before .before .before .before .before .before .place .ensures) (c .before .before .before .before .before .before .before .before .before .before .before .before .before .before .at .ensures);
+      live = ends-found (hasRand (z .args .q .rand) (z .args .time)) (s .sessions .rows) 64 _ noSession _ m _ (c .before .before .before .before .before .before .before .before .before .before .before .before .with-rand .ensures) (c .before .before .before .before .before .before .before .before .before .before .before .place2 .ensures) refl;
+      other = ends-found (isOther (z .args .run) (z .args .q .rand) (z .args .time)) (s .runs .rows) 32 _ noRun _ n _ (c .before .before .before .before .before .before .before .before .before .other .ensures) (c .before .before .before .before .before .before .before .before .place3 .ensures) refl;
+    } in
     met-state _ _ _ _ _ _ _ (c .filled .ensures) (c .before .before .before .before .before .before .reply .ensures s l .answered (c .before .if1 .taken) .1)
 
 same-length-2 : tie.Need-same-length-2
@@ -78,13 +78,13 @@ returns-2 c =
     let n = state-runs-long s _ (z .good .0) in
     let m = state-sessions-long s _ (z .good .0) in
     let l : Looks (s .restart) (s .clock .0) (z .args .time) (z .args .run) (c .before .before .before .before .before .before .before .before .before .before .before .before .before .before .place .result) (c .before .before .before .before .before .before .before .before .before .before .before .before .before .at .result) (c .before .before .before .before .before .before .before .before .before .before .place2 .result) (c .before .before .before .before .before .before .before .place3 .result) (z .args .q .rand) s =
-        record {
-          restart-is = refl;
-          clock-is = refl;
-          run = ends-found (isRun (z .args .run) (z .args .time)) (s .runs .rows) 32 _ noRun _ n _ (c .before .before .before .before .before .before .before .before .before .before .before .before .before .before .before .find .ensures) (c .before .before .before .before .before .before .before .before .before .before .before .before .before .before .place .ensures) (c .before .before .before .before .before .before .before .before .before .before .before .before .before .at .ensures);
-          live = ends-found (hasRand (z .args .q .rand) (z .args .time)) (s .sessions .rows) 64 _ noSession _ m _ (c .before .before .before .before .before .before .before .before .before .before .before .with-rand .ensures) (c .before .before .before .before .before .before .before .before .before .before .place2 .ensures) refl;
-          other = ends-found (isOther (z .args .run) (z .args .q .rand) (z .args .time)) (s .runs .rows) 32 _ noRun _ n _ (c .before .before .before .before .before .before .before .before .other .ensures) (c .before .before .before .before .before .before .before .place3 .ensures) refl;
-        } in
+    record {
+      restart-is = refl;
+      clock-is = refl;
+      run = ends-found (isRun (z .args .run) (z .args .time)) (s .runs .rows) 32 _ noRun _ n _ (c .before .before .before .before .before .before .before .before .before .before .before .before .before .before .before .find .ensures) (c .before .before .before .before .before .before .before .before .before .before .before .before .before .before .place .ensures) (c .before .before .before .before .before .before .before .before .before .before .before .before .before .at .ensures);
+      live = ends-found (hasRand (z .args .q .rand) (z .args .time)) (s .sessions .rows) 64 _ noSession _ m _ (c .before .before .before .before .before .before .before .before .before .before .before .with-rand .ensures) (c .before .before .before .before .before .before .before .before .before .before .place2 .ensures) refl;
+      other = ends-found (isOther (z .args .run) (z .args .q .rand) (z .args .time)) (s .runs .rows) 32 _ noRun _ n _ (c .before .before .before .before .before .before .before .before .other .ensures) (c .before .before .before .before .before .before .before .place3 .ensures) refl;
+    } in
     c .before .before .before .before .before .reply .ensures s l .refused (c .if1 .left)
 
 pub vector-spec : {M : Type 1} → statement M
