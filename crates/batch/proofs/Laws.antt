@@ -163,11 +163,6 @@ module _ (t : State) (shelf : Shelf) (body old : List ℕ) (n : length old ≡ 1
         unfolding started
         stepped-started time i r m = stepped-next _ m (length-set (t .runs .rows) i r ∙ a) b
 
-        pub stepped-filled : (time i : ℕ) (r : Run) → Met t o old (record { state = filled t time i r; reply = reply }) new
-            → Stepped t shelf body old (packed (t .ready) (t .domain) (t .restart) (t .lifetime) time (t .last) (putRun (t .runs) i r) (t .sessions)) reply new
-        unfolding filled
-        stepped-filled time i r m = stepped-next _ m (length-set (t .runs .rows) i r ∙ a) b
-
       -- by a function that takes the state and hands the next one back
       pub stepped-state : (o : Result Done) (r : Outcome) → Met t o old r new → o ≡ rule t policy-is body (decoded body)
           → Stepped t shelf body old (packed (t .ready) (t .domain) (t .restart) (t .lifetime) (r .state .clock .0) (r .state .last) (r .state .runs) (r .state .sessions)) (r .reply) new

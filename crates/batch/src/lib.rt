@@ -157,54 +157,33 @@ pub fn serve(
                         } => {
                             let q = brought::quintet_of(body, rand, autn, xres, xres_end, ck, ik);
                             let given = brought::settings_of(body, long, timestamp, count, entries);
-                            let sent = q.rand;
-                            let mut i: usize = 0;
-                            while i < RUNS {
-                                let row = runs.rows[i];
-                                if row.is_run(run, time) {
-                                    break;
-                                }
-                                i += 1;
-                            }
-                            let mut j: usize = 0;
-                            while j < SESSIONS {
-                                let row = sessions.rows[j];
-                                if row.has_rand(&sent, time) {
-                                    break;
-                                }
-                                j += 1;
-                            }
-                            let mut k: usize = 0;
-                            while k < RUNS {
-                                let row = runs.rows[k];
-                                if row.is_other(run, &sent, time) {
-                                    break;
-                                }
-                                k += 1;
-                            }
-                            let found = runs.rows[i % RUNS];
-                            let filled = vector::reply(
+                            let now = State {
+                                ready,
+                                domain,
                                 restart,
-                                clock,
+                                lifetime,
+                                clock: Moment(clock),
+                                last,
+                                runs,
+                                sessions,
+                            };
+                            let outcome = vector::vector(
+                                now,
                                 time,
                                 named,
                                 run,
-                                i,
-                                found,
-                                j,
-                                k,
                                 &body[impi..impi_end],
                                 q,
                                 kind,
                                 given,
                                 &mut buffer,
                             );
-                            reply = filled.reply;
-                            if reply.no == 0 {
-                                let row = filled.row;
-                                runs.rows[i % RUNS] = row;
-                                clock = time;
-                            }
+                            reply = outcome.reply;
+                            let next = outcome.state;
+                            clock = next.clock.0;
+                            last = next.last;
+                            runs = next.runs;
+                            sessions = next.sessions;
                         }
                         Event::Response {
                             time,
@@ -299,7 +278,7 @@ pub fn serve(
                             );
                         }
                         Event::Bad => {
-                            reply = Reply { no: FORM, len: 0 };
+                            reply = Reply { no: 3, len: 0 };
                         }
                     }
                 }

@@ -1,7 +1,7 @@
+-- Each refusal is a line of the rule; then the answer stands in the buffer, and the run's row is cleared.
 use mathlib.Core.Path.{refl}
 use Rattle.flow.proofs.Chains.{passes-above, passes-equal, passes-found}
 use Rattle.outcome.proofs.Laws.{met-answered}
--- Each refusal is a line of the rule; then the answer stands in the buffer, and the run's row is cleared.
 use Rattle.rules.specs.Response.{abortRule}
 use Rattle.answer.specs.Answer.{encodeOf}
 use Rattle.outcome.proofs.Laws.{rules}

@@ -1,6 +1,6 @@
+-- The answer stands in the buffer, and the run's row is cleared.
 use mathlib.Core.Path.{refl}
 use Rattle.outcome.proofs.Laws.{met-answered}
--- The answer stands in the buffer, and the run's row is cleared.
 use Rattle.rules.specs.Response.{fails}
 use Rattle.answer.specs.Answer.{encodeOf}
 use Rattle.outcome.proofs.Laws.{rules}

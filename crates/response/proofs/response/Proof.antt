@@ -1,7 +1,7 @@
+-- Each refusal is a line of the rule; the last stage has its own proof, and is handed whether RES is right.
 use Rattle.flow.proofs.Chains.{passes-above, passes-equal, passes-found}
 use Rattle.outcome.proofs.Laws.{met-stage}
 use Rattle.response.proofs.Laws.{handed}
--- Each refusal is a line of the rule; the last stage has its own proof, and is handed whether RES is right.
 use Rattle.rules.specs.Response.{responseRule}
 use Rattle.outcome.proofs.Laws.{rules}
 use native.Mathlib.Omega.{arith}
