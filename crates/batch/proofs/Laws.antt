@@ -4,47 +4,44 @@ use native.Mathlib.Omega.{arith}
 use mathlib.Core.Path.{_≡_, refl, sym, ap, subst, subst⁻¹, _∙_}
 use mathlib.Core.Bool.{Bool, true, false}
 use mathlib.Core.List.{List, [], append-nil}
-use lib.ListN.{length, take, drop, length-append, length-drop, length-set}
+use lib.ListN.{length, take, drop, getD, length-append, length-drop, length-set}
 use lib.Seq.{take-append-seam}
-use mir.Val.{Val}
-use denote.Laws.{Is}
-use denote.Struct.Declared.{row}
-use Rattle.names.proofs.Laws.{length-mapped}
-use Rattle.records.proofs.Run as Run·
-use Rattle.records.proofs.Session as Session·
-use Rattle.tables.proofs.State as State·
-use Rattle.flow.specs.Result.{Result, refused, ok, mapR, refuse, _>>_}
+use borrow.Author.Tests.{lt-ltb, le-ltb}
+use Rattle.flow.specs.Choice.{pick}
+use Rattle.flow.specs.Result.{Result, refused, ok, mapR}
 use Rattle.flow.specs.Front.{front, _▹_, Put, Wrote}
 use Rattle.flow.specs.Reply.{replyOf, bufferOf}
 use Rattle.flow.specs.declared.Reply.{Reply}
-use Rattle.flow.proofs.Chains.{stops-unset, passes-set, passes-above}
 use Rattle.flow.proofs.Fronts.{next-put, front-none}
 use Rattle.line.specs.Text.{between}
-use Rattle.shelves.specs.Shelf.{policyFor}
+use Rattle.shelves.specs.Shelf.{isRow, taken, policyOf, policyFor}
+use Rattle.shelves.specs.declared.Row.{Row}
+use Rattle.shelves.proofs.Laws.{policyFrom, policy-all, policy-past, front-here}
+use Rattle.sought.proofs.Laws.{row-here}
 use Rattle.shelves.specs.declared.Shelf.{Shelf}
 use Rattle.shelves.specs.declared.Policy.{Policy}
 use Rattle.names.specs.declared.Name.{Name}
 use Rattle.event.specs.Layout.{eventOf as decoded}
 use Rattle.event.specs.declared.Event.{Event}
-use Rattle.event.specs.declared.Event.the-variants.{Key, Bad as BadEvent}
 use Rattle.records.specs.Time.{moment}
 use Rattle.records.specs.declared.Lifetime.{Lifetime}
-use Rattle.records.specs.declared.Run.{Run}
-use Rattle.tables.specs.Tables.{putRun}
-use Rattle.tables.specs.State.{started, filled, ended, established}
+use Rattle.tables.specs.Tables.{putRun, putSession}
+use Rattle.tables.specs.State.{stored}
 use Rattle.tables.specs.declared.Runs.{Runs}
 use Rattle.tables.specs.declared.Sessions.{Sessions}
 use Rattle.tables.specs.declared.State.{State}
-use Rattle.outcome.specs.Outcome.{Done, answered, octetsOf, stateOf, outcomeOf, Met}
+use Rattle.outcome.specs.Outcome.{Done, octetsOf, stateOf, outcomeOf, Met}
 use Rattle.outcome.specs.declared.Outcome.{Outcome}
-use Rattle.outcome.proofs.Laws.{met-refused, met-stage}
-use Rattle.rules.specs.Start.{opens}
-use Rattle.rules.specs.Vector.{challenges}
+use Rattle.outcome.proofs.Laws.{met-stage}
 use Rattle.rules.specs.Key.{keyRule, keyFor}
-use Rattle.rules.specs.Server.{askedIn, askedOf, rule, stepOf}
+use Rattle.rules.specs.Server.{askedIn, askedOf, stepOf}
 use Rattle.rules.specs.History.{eventOf}
-use Rattle.rules.proofs.Steps.{Did, refuses, starts, vectors, rights, wrongs, aborts, keys, did-rule}
-use Rattle.server.proofs.Laws.{told-key, told-bad, asks-key}
+use Rattle.turn.specs.Turn.{turned}
+use Rattle.turn.specs.declared.Seen.{Seen}
+use Rattle.turn.specs.declared.Turn.{Turn}
+use Rattle.turns.specs.Turns.{askOf, policyIn, Looks, Takes}
+use Rattle.turns.specs.declared.Ask.{Ask}
+use Rattle.turns.proofs.Laws.{named, asked-rule}
 use Rattle.feed.specs.Frame.{frameAt}
 use Rattle.feed.specs.declared.Frame.{Frame}
 use Rattle.feed.specs.declared.Frame.the-variants.{Body, More as FrameMore, Bad as FrameBad}
@@ -84,6 +81,23 @@ module _ (s : State) (o : Result Done) (old new : List ℕ) (r : Outcome) (m : M
   unfolding outcomeOf
   state-is = ap (λ (x : Outcome). x .state) (m .outcome)
 
+-- ---- the shelf table
+
+-- what was found in it is what it says
+module _ (shelf : Shelf) (peer fqdn : List ℕ) (count r : ℕ) (l : length (take (shelf .count) (shelf .rows)) ≡ count)
+    (e : policyFrom (take (shelf .count) (shelf .rows)) peer fqdn 0 ≡ policyFrom (take (shelf .count) (shelf .rows)) peer fqdn r) (w : Policy) (listed : Row)
+    (q : w ≡ policyIn r count listed) where
+  pub policy-none : count ≤ r → w ≡ policyOf (take (shelf .count) (shelf .rows)) peer fqdn
+  unfolding policyIn pick
+  policy-none h = q ∙ rw (le-ltb r count h) (policy-past _ peer fqdn r (omega (arith, l)) ∙ sym e ∙ sym (policy-all _ peer fqdn))
+
+  pub policy-row : count ≤ length (shelf .rows) → (m : ℕ) (d y : Row) → r < count → m ≡ r → listed ≡ getD (shelf .rows) m d → (b : Bool)
+      → b ≡ isRow peer fqdn (getD (shelf .rows) r y) → b ≡ true → w ≡ policyOf (take (shelf .count) (shelf .rows)) peer fqdn
+  unfolding policyIn pick
+  policy-row n m d y h p g b f t =
+      q ∙ rw (lt-ltb r count h)
+      (ap taken (g ∙ row-here (shelf .rows) m r d y p (omega arith)) ∙ front-here (shelf .rows) (shelf .count) peer fqdn r y (omega (arith, l)) b f t ∙ sym e ∙ sym (policy-all _ peer fqdn))
+
 -- ---- one event
 
 -- the state that a loop holds in its locals
@@ -99,83 +113,36 @@ pub record Stepped (t : State) (shelf : Shelf) (body old : List ℕ) (next : Sta
   pub runs-long : length (next .runs .rows) ≡ 32
   pub sessions-long : length (next .sessions .rows) ≡ 64
 
--- no rule touches what an opening settled, nor the length of a table
-pub record Keeps (s t : State) : Type 0 where
-  pub rest : t ≡ packed (s .ready) (s .domain) (s .restart) (s .lifetime) (t .clock .0) (t .last) (t .runs) (t .sessions)
-  pub runs : length (t .runs .rows) ≡ length (s .runs .rows)
-  pub sessions : length (t .sessions .rows) ≡ length (s .sessions .rows)
+module _ (t : State) (shelf : Shelf) (body old new : List ℕ) (n : length old ≡ 160) (l : length new ≡ length old) (a : length (t .runs .rows) ≡ 32) (b : length (t .sessions .rows) ≡ 64) where
+  -- a KEY changes no state
+  pub stepped-key : (e : Event) (k : Ask) (w : Policy) (r : Reply) → e ≡ decoded body → k ≡ askOf (t .ready) e → k .key ≡ true
+      → w ≡ policyFor (take (shelf .count) (shelf .rows)) body (k .shelf)
+      → Met t (keyRule (keyFor (between body (k .naf) (k .nafend))) t w (k .time) (between body (k .btid) (k .btidend)) (k .application)) old (record { state = t; reply = r }) new
+      → Stepped t shelf body old t r new
+  unfolding eventOf
+  stepped-key e k w r p q h g m =
+      let rows = take (shelf .count) (shelf .rows) in
+      let f = g ∙ ap (policyFor rows body) (named _ e k q h .shelf-is ∙ ap askedIn p) in
+      record {
+        met = met-stage _ _ _ _ _ _ m (asked-rule t body e k p q h w 160 (omega arith) ∙ ap (λ (v : Policy). stepOf t v body 160) f);
+        room = n;
+        long = l;
+        runs-long = a;
+        sessions-long = b;
+      }
 
-keeps-did : (s : State) (w : Policy) (body : List ℕ) (e : Event) (o : Result Done) → Did s w body e o → Keeps s (stateOf s o)
-unfolding opens challenges answered stateOf started filled ended established
-keeps-did s w body e o (refuses h) = record { rest = refl; runs = refl; sessions = refl }
-keeps-did s w body e o (starts i c l f) = record { rest = refl; runs = length-set (s .runs .rows) i _; sessions = refl }
-keeps-did s w body e o (vectors i p c m y d) = record { rest = refl; runs = length-set (s .runs .rows) i _; sessions = refl }
-keeps-did s w body e o (rights i j p c r q) = record { rest = refl; runs = length-set (s .runs .rows) i _; sessions = length-set (s .sessions .rows) j _ }
-keeps-did s w body e o (wrongs i p c r) = record { rest = refl; runs = length-set (s .runs .rows) i _; sessions = refl }
-keeps-did s w body e o (aborts i p) = record { rest = refl; runs = length-set (s .runs .rows) i _; sessions = refl }
-keeps-did s w body e o (keys j c f g y) = record { rest = refl; runs = refl; sessions = refl }
-
-module _ (t : State) (shelf : Shelf) (body old : List ℕ) (n : length old ≡ 160) (a : length (t .runs .rows) ≡ 32) (b : length (t .sessions .rows) ≡ 64) where
-  pub stepped-unready : t .ready ≡ false → Stepped t shelf body old t (record { no = 1; len = 0 }) old
-  unfolding eventOf stepOf
-  stepped-unready h = record { met = met-refused _ _ _ _ (stops-unset _ _ _ h); room = n; long = refl; runs-long = a; sessions-long = b }
-
-  module _ (h : t .ready ≡ true) (x : Event) (p : x ≡ decoded body) where
-    -- what the shelf says to the event
-    abbrev pub policy-is : Policy
-    policy-is = policyFor (take (shelf .count) (shelf .rows)) body (askedOf body)
-
-    rule-done : rule t policy-is body (decoded body) ≡ doneOf t shelf body
-    unfolding eventOf stepOf
-    rule-done = passes-set _ _ _ _ h (passes-above _ _ _ 160 160 (omega arith) refl)
-
-    pub stepped-bad : x ≡ BadEvent → Stepped t shelf body old t (record { no = 3; len = 0 }) old
-    stepped-bad q = record { met = met-refused _ _ _ _ (told-bad t policy-is body x _ p q ∙ rule-done); room = n; long = refl; runs-long = a; sessions-long = b }
-
-    module _ (new : List ℕ) (l : length new ≡ length old) where
-      pub stepped-key : (time peer pz text tz naf nz application : ℕ) (w : Policy) (r : Reply) → x ≡ Key time peer pz text tz naf nz application
-          → w ≡ policyFor (take (shelf .count) (shelf .rows)) body (record { peer = peer; peerend = pz; fqdn = naf; fqdnend = nz - 5 })
-          → Met t (keyRule (keyFor (between body naf nz)) t w time (between body text tz) application) old (record { state = t; reply = r }) new
-          → Stepped t shelf body old t r new
-      stepped-key time peer pz text tz naf nz application w r q e m =
-          let rows = take (shelf .count) (shelf .rows) in
-          let k = ap (policyFor rows body) (asks-key x _ p time peer pz text tz naf nz application q) in
-          let f = ap (λ (v : Policy). keyRule (keyFor (between body naf nz)) t v time (between body text tz) application) (e ∙ k) in
-          record {
-            met = met-stage _ _ _ _ _ _ m (f ∙ told-key t policy-is body x _ p time peer pz text tz naf nz application q ∙ rule-done);
-            room = n;
-            long = l;
-            runs-long = a;
-            sessions-long = b;
-          }
-
-      -- with the next state at hand
-      module _ (o : Result Done) (reply : Reply) (e : o ≡ rule t policy-is body (decoded body)) where
-        stepped-next : (next : State) → Met t o old (record { state = next; reply = reply }) new → length (next .runs .rows) ≡ 32 → length (next .sessions .rows) ≡ 64
-            → Stepped t shelf body old next reply new
-        stepped-next next m k j = record { met = met-stage _ _ _ _ _ _ m (e ∙ rule-done); room = n; long = l; runs-long = k; sessions-long = j }
-
-        pub stepped-refused : Met t o old (record { state = t; reply = reply }) new → Stepped t shelf body old t reply new
-        stepped-refused m = stepped-next t m a b
-
-        pub stepped-started : (time i : ℕ) (r : Run) → Met t o old (record { state = started t time i r; reply = reply }) new
-            → Stepped t shelf body old (packed (t .ready) (t .domain) (t .restart) (t .lifetime) time (r .number) (putRun (t .runs) i r) (t .sessions)) reply new
-        unfolding started
-        stepped-started time i r m = stepped-next _ m (length-set (t .runs .rows) i r ∙ a) b
-
-      -- by a function that takes the state and hands the next one back
-      pub stepped-state : (o : Result Done) (r : Outcome) → Met t o old r new → o ≡ rule t policy-is body (decoded body)
-          → Stepped t shelf body old (packed (t .ready) (t .domain) (t .restart) (t .lifetime) (r .state .clock .0) (r .state .last) (r .state .runs) (r .state .sessions)) (r .reply) new
-      stepped-state o r m e =
-          let d = keeps-did t policy-is body (decoded body) _ (did-rule t policy-is body (decoded body)) in
-          let k : Keeps t (r .state) = subst⁻¹ (Keeps t) (state-is t o old new r m ∙ ap (stateOf t) e) d in
-          record {
-            met = subst (λ (v : State). Met t (doneOf t shelf body) old (record { state = v; reply = r .reply }) new) (k .rest) (met-stage _ _ _ _ _ _ m (e ∙ rule-done));
-            room = n;
-            long = l;
-            runs-long = k .runs ∙ a;
-            sessions-long = k .sessions ∙ b;
-          }
+  -- any other event takes a turn on its two rows
+  pub stepped-turn : (e : Event) (v : Seen) (x y : ℕ) (r : Turn) → Looks t x y v body e → Takes v body e old r new
+      → Stepped t shelf body old (packed (t .ready) (t .domain) (t .restart) (t .lifetime) (r .clock) (r .last) (putRun (t .runs) x (r .run)) (putSession (t .sessions) y (r .session))) (r .reply) new
+  unfolding eventOf turned stored
+  stepped-turn e v x y r k h =
+      record {
+        met = met-stage _ _ _ _ _ _ (h t _ x y k) (ap (stepOf t _ body) n);
+        room = n;
+        long = l;
+        runs-long = length-set (t .runs .rows) x (r .run) ∙ a;
+        sessions-long = length-set (t .sessions .rows) y (r .session) ∙ b;
+      }
 
 -- the same, with what the locals are
 pub stepped-as : (t : State) (shelf : Shelf) (body old : List ℕ) (ready : Bool) (domain : Name) (restart : ℕ) (lifetime : Lifetime) (clock clock′ last last′ : ℕ) (runs runs′ : Runs) (sessions sessions′ : Sessions) (reply reply′ : Reply) (new new′ : List ℕ)

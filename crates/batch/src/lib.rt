@@ -1,11 +1,10 @@
 // The events that have arrived, answered one after another, each on the state last handed back, and a line for each. Document 01, "The event program".
-use event::Event;
 use feed::Frame;
 use flow::Reply;
 use records::Moment;
-use shelves::Asked;
 use shelves::Shelf;
 use tables::State;
+use turn::Seen;
 ghost use Prim.Native.Nat.{_+_, _≤_, _<_, _^_};
 ghost use mathlib.Core.Path.{_≡_};
 ghost use lib.ListN.{length};
@@ -21,6 +20,9 @@ const ROOM: usize = 160;
 const RUNS: usize = 32;
 
 const SESSIONS: usize = 64;
+
+// The rows of the shelf table.
+const ROWS: usize = 16;
 
 // The room that the longest line needs.
 const LINE: usize = 364;
@@ -93,194 +95,93 @@ pub fn serve(
             Frame::Body(start, end) => {
                 let body = &input[start..end];
                 let mut buffer = [0u8; ROOM];
-                let mut reply = Reply { no: 1, len: 0 };
-                if ready {
-                    match event::decode(body) {
-                        Event::Start {
-                            time,
-                            impi,
-                            impi_end,
-                        } => {
-                            let mut i: usize = 0;
-                            while i < RUNS {
-                                let row = runs.rows[i];
-                                if row.is_open(time) {} else {
-                                    break;
-                                }
-                                i += 1;
-                            }
-                            let mut j: usize = 0;
-                            while j < SESSIONS {
-                                let row = sessions.rows[j];
-                                if row.is_own(&body[impi..impi_end], time) {
-                                    break;
-                                }
-                                j += 1;
-                            }
-                            let session = sessions.rows[j % SESSIONS];
-                            let opened = start::reply(
-                                restart,
-                                clock,
-                                last,
-                                time,
-                                i,
-                                j,
-                                session,
-                                &body[impi..impi_end],
-                                &mut buffer,
-                            );
-                            reply = opened.reply;
-                            if reply.no == 0 {
-                                let row = opened.row;
-                                runs.rows[i % RUNS] = row;
-                                last = row.number;
-                                clock = time;
-                            }
+                let event = event::decode(body);
+                let ask = turns::asked_by(ready, event);
+                let mut reply = Reply { no: 0, len: 0 };
+                let key = ask.key;
+                if key {
+                    let asked = ask.shelf;
+                    let count = octets::least(shelf.count, ROWS);
+                    let mut r: usize = 0;
+                    while r < count {
+                        let row = shelf.rows[r];
+                        if shelves::matches(row, body, asked) {
+                            break;
                         }
-                        Event::Vector {
-                            time,
-                            restart: named,
-                            run,
-                            impi,
-                            impi_end,
-                            rand,
-                            autn,
-                            xres,
-                            xres_end,
-                            ck,
-                            ik,
-                            kind,
-                            lifetime: long,
-                            timestamp,
-                            count,
-                            entries,
-                        } => {
-                            let q = brought::quintet_of(body, rand, autn, xres, xres_end, ck, ik);
-                            let given = brought::settings_of(body, long, timestamp, count, entries);
-                            let now = State {
-                                ready,
-                                domain,
-                                restart,
-                                lifetime,
-                                clock: Moment(clock),
-                                last,
-                                runs,
-                                sessions,
-                            };
-                            let outcome = vector::vector(
-                                now,
-                                time,
-                                named,
-                                run,
-                                &body[impi..impi_end],
-                                q,
-                                kind,
-                                given,
-                                &mut buffer,
-                            );
-                            reply = outcome.reply;
-                            let next = outcome.state;
-                            clock = next.clock.0;
-                            last = next.last;
-                            runs = next.runs;
-                            sessions = next.sessions;
-                        }
-                        Event::Response {
-                            time,
-                            restart: named,
-                            run,
-                            res,
-                            res_end,
-                        } => {
-                            let now = State {
-                                ready,
-                                domain,
-                                restart,
-                                lifetime,
-                                clock: Moment(clock),
-                                last,
-                                runs,
-                                sessions,
-                            };
-                            let outcome = response::response(
-                                now,
-                                time,
-                                named,
-                                run,
-                                &body[res..res_end],
-                                &mut buffer,
-                            );
-                            reply = outcome.reply;
-                            let next = outcome.state;
-                            clock = next.clock.0;
-                            last = next.last;
-                            runs = next.runs;
-                            sessions = next.sessions;
-                        }
-                        Event::Abort {
-                            time,
-                            restart: named,
-                            run,
-                        } => {
-                            let now = State {
-                                ready,
-                                domain,
-                                restart,
-                                lifetime,
-                                clock: Moment(clock),
-                                last,
-                                runs,
-                                sessions,
-                            };
-                            let outcome = response::abort(now, time, named, run, &mut buffer);
-                            reply = outcome.reply;
-                            let next = outcome.state;
-                            clock = next.clock.0;
-                            last = next.last;
-                            runs = next.runs;
-                            sessions = next.sessions;
-                        }
-                        Event::Key {
-                            time,
-                            peer,
-                            peer_end,
-                            btid,
-                            btid_end,
-                            naf,
-                            naf_end,
-                            application,
-                        } => {
-                            let asked = Asked {
-                                peer,
-                                peerend: peer_end,
-                                fqdn: naf,
-                                fqdnend: naf_end - 5,
-                            };
-                            let policy = shelf.lookup(body, asked);
-                            let mut j: usize = 0;
-                            while j < SESSIONS {
-                                let row = sessions.rows[j];
-                                if key::is_named(row, &body[btid..btid_end], domain, time) {
-                                    break;
-                                }
-                                j += 1;
-                            }
-                            let session = sessions.rows[j % SESSIONS];
-                            reply = key::reply(
-                                clock,
-                                policy,
-                                time,
-                                j,
-                                session,
-                                &body[naf..naf_end],
-                                application,
-                                &mut buffer,
-                            );
-                        }
-                        Event::Bad => {
-                            reply = Reply { no: 3, len: 0 };
-                        }
+                        r += 1;
                     }
+                    let listed = shelf.rows[r % ROWS];
+                    let policy = turns::policy_of(r, count, listed);
+                    let mut j: usize = 0;
+                    while j < SESSIONS {
+                        let row = sessions.rows[j];
+                        if turns::is_named(ask, body, domain, row) {
+                            break;
+                        }
+                        j += 1;
+                    }
+                    let session = sessions.rows[j % SESSIONS];
+                    reply = turns::key(ask, body, clock, policy, j, session, &mut buffer);
+                } else {
+                    let mut own: usize = 0;
+                    while own < RUNS {
+                        let row = runs.rows[own];
+                        if seeks::run(event, row) {
+                            break;
+                        }
+                        own += 1;
+                    }
+                    let x = own % RUNS;
+                    let run = runs.rows[x];
+                    let mut other: usize = 0;
+                    while other < RUNS {
+                        let row = runs.rows[other];
+                        if seeks::other(event, body, row) {
+                            break;
+                        }
+                        other += 1;
+                    }
+                    let mut filed: usize = 0;
+                    while filed < SESSIONS {
+                        let row = sessions.rows[filed];
+                        if seeks::session(event, body, run, row) {
+                            break;
+                        }
+                        filed += 1;
+                    }
+                    let mut free: usize = 0;
+                    while free < SESSIONS {
+                        let row = sessions.rows[free];
+                        if seeks::place(event, row) {
+                            break;
+                        }
+                        free += 1;
+                    }
+                    let goes = sought::or_else(filed, free, SESSIONS);
+                    let y = goes % SESSIONS;
+                    let session = sessions.rows[y];
+                    let seen = Seen {
+                        ready,
+                        domain,
+                        restart,
+                        lifetime,
+                        clock,
+                        last,
+                        own,
+                        other,
+                        filed,
+                        goes,
+                        run,
+                        session,
+                    };
+                    let turn = turns::take(seen, event, body, &mut buffer);
+                    reply = turn.reply;
+                    clock = turn.clock;
+                    last = turn.last;
+                    let run = turn.run;
+                    runs.rows[x] = run;
+                    let session = turn.session;
+                    sessions.rows[y] = session;
                 }
                 len = tell(reply, &buffer, place, out, len);
                 at = end;

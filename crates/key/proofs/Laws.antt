@@ -1,71 +1,44 @@
--- Laws of the search by B-TID, of the entry that is wanted or required, and of the answer.
-use Prim.Native.Nat.{ℕ, _≤_}
-use native.Mathlib.Omega.{arith}
+-- Laws of the comparison with a B-TID, of the entry that is wanted or required, and of the answer.
+use Prim.Native.Nat.{ℕ, _<_}
 use mathlib.Core.Path.{_≡_, refl, sym, ap, ap₂, _∙_}
-use mathlib.Core.Bool.{Bool, true, false, not, _&&_, and-false}
-use mathlib.Core.List.{List, [], _∷_, _++_, append-assoc, append-nil}
-use lib.Dec.{eqb, ltb}
-use lib.ListN.{length, take, drop, getD, drop-of-length-le}
-use borrow.Author.Tests.{eq-eqb, ne-eqb, lt-ltb, le-ltb}
+use mathlib.Core.Bool.{Bool, true, false, _&&_, true≢false}
+use mathlib.Core.Logic.{⊎-elim}
+use mathlib.Core.List.{List}
+use lib.ListN.{length, getD}
+use borrow.Author.Tests.{eq-eqb, ne-eqb}
 use Rattle.flow.specs.Choice.{pick}
-use Rattle.flow.specs.Front.{_▹_, front, Wrote}
+use Rattle.flow.specs.Front.{Wrote}
 use Rattle.flow.specs.Search.{first}
 use Rattle.flow.specs.declared.Found.{Found}
 use Rattle.flow.specs.declared.Found.the-variants.{At, Nothing}
+use Rattle.flow.proofs.Choices.{split}
 use Rattle.names.specs.declared.Name.{Name}
 use Rattle.octets.specs.Octets.{same}
-use Rattle.base64.specs.Base64.{base64}
+use Rattle.octets.proofs.Laws.{same-equal}
+use Rattle.line.specs.Ranges.{BARE}
 use Rattle.base64.specs.Btid.{btid}
-use Rattle.base64.proofs.Apart.{length-base64}
+use Rattle.base64.proofs.Apart.{first-six, second-six}
 use Rattle.records.specs.Settings.{noEntry, isEntry}
 use Rattle.records.specs.declared.Entry.{Entry}
 use Rattle.records.specs.declared.Settings.{Settings}
 use Rattle.shelves.specs.declared.Policy.{Policy}
 use Rattle.answer.specs.Answer.{Wanted, absent, present, wantedBy, Keyed, keyed, keyOctets, encodeOf}
 use Rattle.rules.specs.Key.{isAbsent, entryAt, entryFor, lacks, wanted}
+use Rattle.key.specs.Starts.{startsAs}
 
--- ---- a string is compared piece by piece
+-- ---- the B-TID
 
-and-both : (x y z : Bool) → (x && (y && z)) ≡ ((x && y) && z)
-and-both true y z = refl
-and-both false y z = refl
+-- a B-TID starts as its RAND says
+starts-own : (rand domain : List ℕ) → length rand ≡ BARE → getD rand 0 0 < 256 → getD rand 1 0 < 256 → startsAs rand (btid rand domain) ≡ true
+starts-own rand domain h k l = ap₂ _&&_ (eq-eqb _ _ (first-six rand domain h k)) (eq-eqb _ _ (second-six rand domain h k l))
 
-pub same-pieces : (x y t : List ℕ) → same (x ++ y) t ≡ (same x (take (length x) t) && same y (drop (length x) t))
-unfolding same
-same-pieces [] y t = refl
-same-pieces (a ∷ x) y [] = refl
-same-pieces (a ∷ x) y (b ∷ t) = ap (λ (w : Bool). eqb a b && w) (same-pieces x y t) ∙ and-both (eqb a b) (same x (take (length x) t)) (same y (drop (length x) t))
-
--- ---- a B-TID begins with the four letters of RAND's first three octets
-
-letters : (rand : List ℕ) → 3 ≤ length rand → base64 rand ≡ base64 (take 3 rand) ++ base64 (drop 3 rand)
-unfolding base64
-letters [] h = absurd (omega arith)
-letters (a ∷ []) h = absurd (omega arith)
-letters (a ∷ b ∷ []) h = absurd (omega arith)
-letters (a ∷ b ∷ c ∷ s) h = refl
-
-pub four-letters : (rand : List ℕ) → length rand ≡ 16 → length (base64 (take 3 rand)) ≡ 4
-unfolding base64
-four-letters [] h = absurd (omega arith)
-four-letters (a ∷ []) h = absurd (omega arith)
-four-letters (a ∷ b ∷ []) h = absurd (omega arith)
-four-letters (a ∷ b ∷ c ∷ s) h = refl
-
-pub starts-otherwise : (rand domain text : List ℕ) → length rand ≡ 16 → same (base64 (take 3 rand)) (take 4 text) ≡ false → false ≡ same (btid rand domain) text
-unfolding btid _▹_
-starts-otherwise rand domain text h e =
-    let x = base64 (take 3 rand) in
-    let f : same x (take (length x) text) ≡ false = rw (four-letters rand h) e in
-    let g : base64 rand ≡ x ++ base64 (drop 3 rand) = letters rand (omega arith) in
-    sym (rw (g, append-assoc, append-assoc) (same-pieces x _ text ∙ rw f))
-
--- what a buffer of just that length holds
-pub wrote-whole : (x old new : List ℕ) (r : ℕ) → Wrote x r old new → length x ≡ length old → new ≡ x
-unfolding front
-wrote-whole x old new r w h =
-    let k : length old ≤ length x = omega arith in
-    w .octets ∙ rw (drop-of-length-le old k) (append-nil x)
+-- a text that starts otherwise is another's
+pub starts-otherwise : (rand domain text : List ℕ) → length rand ≡ BARE → getD rand 0 0 < 256 → getD rand 1 0 < 256 → startsAs rand text ≡ false → false ≡ same (btid rand domain) text
+starts-otherwise rand domain text h k l e =
+    ⊎-elim
+    (λ q. absurd (true≢false (sym (starts-own rand domain h k l) ∙ ap (startsAs rand) (same-equal (btid rand domain) text q) ∙ e)))
+    (λ q. sym q)
+    (split (same (btid rand domain) text))
 
 -- ---- the entry
 

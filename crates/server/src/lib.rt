@@ -1,90 +1,33 @@
 // One event on a state: the two checks in front of every event, and then the rule of its kind. Document 01, "What goes back".
-use event::Event;
 use flow::Reply;
 use outcome::Outcome;
 use shelves::Asked;
 use shelves::Policy;
 use tables::State;
+use turn::Seen;
 ghost use mathlib.Core.Path.{_≡_};
 ghost use lib.ListN.{length};
 ghost use Rattle.outcome.specs.Outcome.{Met};
-ghost use Rattle.rules.specs.Server.{nowhere, askedOf, stepOf};
+ghost use Rattle.rules.specs.Server.{askedOf, stepOf};
+
+// The rows of the two tables.
+const RUNS: usize = 32;
+
+const SESSIONS: usize = 64;
 
 // A shorter buffer is refused with 2.
 const ROOM: usize = 160;
 
-// No peer and no FQDN: what other events ask of the shelf table.
-fn nowhere() -> Asked
-    ensures { λ r. ⌜ r ≡ nowhere ⌝ }
-{
-    Asked {
-        peer: 0,
-        peerend: 0,
-        fqdn: 0,
-        fqdnend: 0,
-    }
-}
-
-// Where a KEY names its peer and its FQDN.
+// Where a KEY names its peer and its FQDN, for the shelf table; any other event asks for nothing there.
 pub fn asked(body: &[u8]) -> Asked
     ensures { λ r. ⌜ r ≡ askedOf (now (body .entry)) ⌝ }
 {
-    match event::decode(body) {
-        Event::Start {
-            time: _,
-            impi: _,
-            impi_end: _,
-        } => nowhere(),
-        Event::Vector {
-            time: _,
-            restart: _,
-            run: _,
-            impi: _,
-            impi_end: _,
-            rand: _,
-            autn: _,
-            xres: _,
-            xres_end: _,
-            ck: _,
-            ik: _,
-            kind: _,
-            lifetime: _,
-            timestamp: _,
-            count: _,
-            entries: _,
-        } => nowhere(),
-        Event::Response {
-            time: _,
-            restart: _,
-            run: _,
-            res: _,
-            res_end: _,
-        } => nowhere(),
-        Event::Abort {
-            time: _,
-            restart: _,
-            run: _,
-        } => nowhere(),
-        Event::Key {
-            time: _,
-            peer,
-            peer_end,
-            btid: _,
-            btid_end: _,
-            naf,
-            naf_end,
-            application: _,
-        } => Asked {
-            peer: peer,
-            peerend: peer_end,
-            fqdn: naf,
-            fqdnend: naf_end - 5,
-        },
-        Event::Bad => nowhere(),
-    }
+    let event = event::decode(body);
+    let ask = turns::asked_by(true, event);
+    ask.shelf
 }
 
-// What an event does, where the shelf table has said what it says to a KEY.
+// What an event does, where the shelf table has said what it says to a KEY. The rows are searched here, in the tables that were handed in.
 pub fn step(state: State, policy: Policy, body: &[u8], out: &mut [u8]) -> Outcome
     ensures { λ r. ⌜ Met state (stepOf state policy (now (body .entry)) (length (now (out .entry)))) (now (out .entry)) r (now (out .exit)) ⌝ }
 {
@@ -101,73 +44,87 @@ pub fn step(state: State, policy: Policy, body: &[u8], out: &mut [u8]) -> Outcom
             reply: Reply { no: 2, len: 0 },
         };
     }
-    match event::decode(body) {
-        Event::Start {
-            time,
-            impi,
-            impi_end,
-        } => start::start(state, time, &body[impi..impi_end], out),
-        Event::Vector {
-            time,
-            restart,
-            run,
-            impi,
-            impi_end,
-            rand,
-            autn,
-            xres,
-            xres_end,
-            ck,
-            ik,
-            kind,
-            lifetime,
-            timestamp,
-            count,
-            entries,
-        } => {
-            let q = brought::quintet_of(body, rand, autn, xres, xres_end, ck, ik);
-            let given = brought::settings_of(body, lifetime, timestamp, count, entries);
-            vector::vector(
-                state,
-                time,
-                restart,
-                run,
-                &body[impi..impi_end],
-                q,
-                kind,
-                given,
-                out,
-            )
+    let runs = state.runs;
+    let sessions = state.sessions;
+    let domain = state.domain;
+    let lifetime = state.lifetime;
+    let event = event::decode(body);
+    let ask = turns::asked_by(ready, event);
+    let key = ask.key;
+    if key {
+        let mut j: usize = 0;
+        while j < SESSIONS {
+            let row = sessions.rows[j];
+            if turns::is_named(ask, body, domain, row) {
+                break;
+            }
+            j += 1;
         }
-        Event::Response {
-            time,
-            restart,
-            run,
-            res,
-            res_end,
-        } => response::response(state, time, restart, run, &body[res..res_end], out),
-        Event::Abort { time, restart, run } => response::abort(state, time, restart, run, out),
-        Event::Key {
-            time,
-            peer: _,
-            peer_end: _,
-            btid,
-            btid_end,
-            naf,
-            naf_end,
-            application,
-        } => key::key(
-            state,
-            policy,
-            time,
-            &body[btid..btid_end],
-            &body[naf..naf_end],
-            application,
-            out,
-        ),
-        Event::Bad => Outcome {
+        let session = sessions.rows[j % SESSIONS];
+        let told = turns::key(ask, body, state.clock.0, policy, j, session, out);
+        return Outcome {
             state: state,
-            reply: Reply { no: 3, len: 0 },
-        },
+            reply: told,
+        };
+    }
+    let mut own: usize = 0;
+    while own < RUNS {
+        let row = runs.rows[own];
+        if seeks::run(event, row) {
+            break;
+        }
+        own += 1;
+    }
+    let x = own % RUNS;
+    let run = runs.rows[x];
+    let mut other: usize = 0;
+    while other < RUNS {
+        let row = runs.rows[other];
+        if seeks::other(event, body, row) {
+            break;
+        }
+        other += 1;
+    }
+    let mut filed: usize = 0;
+    while filed < SESSIONS {
+        let row = sessions.rows[filed];
+        if seeks::session(event, body, run, row) {
+            break;
+        }
+        filed += 1;
+    }
+    let mut free: usize = 0;
+    while free < SESSIONS {
+        let row = sessions.rows[free];
+        if seeks::place(event, row) {
+            break;
+        }
+        free += 1;
+    }
+    let goes = sought::or_else(filed, free, SESSIONS);
+    let y = goes % SESSIONS;
+    let session = sessions.rows[y];
+    let seen = Seen {
+        ready: ready,
+        domain: domain,
+        restart: state.restart,
+        lifetime: lifetime,
+        clock: state.clock.0,
+        last: state.last,
+        own: own,
+        other: other,
+        filed: filed,
+        goes: goes,
+        run: run,
+        session: session,
+    };
+    let turn = turns::take(seen, event, body, out);
+    let told = turn.reply;
+    let run = turn.run;
+    let session = turn.session;
+    let next = state.stored(turn.clock, turn.last, x, run, y, session);
+    Outcome {
+        state: next,
+        reply: told,
     }
 }

@@ -1,15 +1,11 @@
--- What owning a table tells of its length, and how a search's answer is read.
+-- What owning a table tells of its length.
 use Prim.Native.Nat.{ℕ}
-use mathlib.Core.Path.{_≡_, refl, sym, ap, _∙_}
-use mathlib.Core.Bool.{Bool, true, false, _||_}
+use mathlib.Core.Path.{_≡_}
 use mathlib.Core.List.{List}
 use mir.Val.{Val}
 use denote.Laws.{Is}
 use denote.Struct.Declared.{row}
 use lib.ListN.{length}
-use Rattle.flow.specs.Search.{found}
-use Rattle.flow.specs.declared.Found.{Found}
-use Rattle.flow.specs.declared.Found.the-variants.{At, Nothing}
 use Rattle.names.proofs.Laws.{length-mapped}
 use Rattle.records.proofs.Run as Run·
 use Rattle.records.proofs.Session as Session·
@@ -31,18 +27,3 @@ state-runs-long h vs g = length-mapped (Run·.the-type .to) (h .runs .rows) 32 (
 
 pub state-sessions-long : (h : State) (vs : List Val) → Is (row State·.the-type) h vs → length (h .sessions .rows) ≡ 64
 state-sessions-long h vs g = length-mapped (Session·.the-type .to) (h .sessions .rows) 64 (g .1 .1 .1 .1 .1 .1 .1 .1 .1 .0 .1 .1 .0 .1 .0 .1)
-
--- one of two searches found something
-module _ (f g x y : Found) (p : x ≡ f) where
-  pub seen-first : (i : ℕ) → x ≡ At i → true ≡ (found f || found g)
-  unfolding found
-  seen-first i e = rw (← p, e)
-
-  module _ (q : y ≡ g) (e : x ≡ Nothing) where
-    pub seen-second : (j : ℕ) → y ≡ At j → true ≡ (found f || found g)
-    unfolding found
-    seen-second j h = rw (← p, e, ← q, h)
-
-    pub seen-none : y ≡ Nothing → false ≡ (found f || found g)
-    unfolding found
-    seen-none h = rw (← p, e, ← q, h)

@@ -137,8 +137,10 @@ fn rows(count: usize) -> Vec<twin::Row> {
 }
 
 fn rand(number: u64) -> [u8; 16] {
-    let mut rand = [0x5a; 16];
-    rand[8..].copy_from_slice(&number.wrapping_mul(0x9e37_79b9_7f4a_7c15).to_be_bytes());
+    let front = (number + 1).wrapping_mul(0x9e37_79b9_7f4a_7c15);
+    let mut rand = [0; 16];
+    rand[..8].copy_from_slice(&front.to_be_bytes());
+    rand[8..].copy_from_slice(&front.wrapping_mul(0x9e37_79b9_7f4a_7c15).to_be_bytes());
     rand
 }
 

@@ -1,62 +1,51 @@
--- Each refusal is a line of the rule; then the answer stands in the buffer, and the run's row is cleared.
+-- Each refusal is a line of the rule; the last stage has its own proof.
 use mathlib.Core.Path.{refl}
-use Rattle.flow.proofs.Chains.{passes-above, passes-equal, passes-found}
-use Rattle.outcome.proofs.Laws.{met-answered}
+use Rattle.answer.specs.Answer.{encodeOf, aborted}
+use Rattle.outcome.proofs.Laws.{met-stage}
 use Rattle.rules.specs.Response.{abortRule}
-use Rattle.answer.specs.Answer.{encodeOf}
-use Rattle.outcome.proofs.Laws.{rules}
+use Rattle.turn.proofs.Laws.{taken-refusal}
+use Rattle.response.proofs.Laws.{stops-refusal, passes-refusal}
 use native.Mathlib.Omega.{arith}
 use borrow.Author.Needs.{needs}
 use Rattle.response.proofs.abort.Statement.{statement}
 use Rattle.response.proofs.abort.Tie as tie
 
+refusal-requires : tie.Need-refusal-requires
+refusal-requires c κs = search needs
+
+refused-requires : tie.Need-refused-requires
+refused-requires c κs = search needs
+
 returns : tie.Need-returns
 unfolding abortRule
-returns c = search (rules, needs) depth 12
+returns c = λ s x y k f.
+    taken-refusal s x y _ k _ _ _ _ (c .refused .ensures)
+    (stops-refusal s x y _ k _ _ _ f _ _ (c .before .before .refusal .ensures) (c .before .if1 .taken))
 
-returns-2 : tie.Need-returns-2
-unfolding abortRule
-returns-2 c = search (rules, needs) depth 12
+none-requires : tie.Need-none-requires
+none-requires c κs = search needs
 
-find-requires : tie.Need-find-requires
-find-requires c κs = search needs
-
-enum-known-i : tie.Need-enum-known-i
-enum-known-i c = search needs
-
-enum-told : tie.Need-enum-told
-enum-told c = search needs
-
-returns-3 : tie.Need-returns-3
-unfolding abortRule
-returns-3 c = search (rules, needs) depth 12
-
-put-kind-requires : tie.Need-put-kind-requires
-put-kind-requires c κs = search needs
-
-ended-requires : tie.Need-ended-requires
-ended-requires c κs = search needs
+closes-requires : tie.Need-closes-requires
+closes-requires c κs = search needs
 
 same-length : tie.Need-same-length
 same-length c = search needs
 
-returns-4 : tie.Need-returns-4
+returns-2 : tie.Need-returns-2
 unfolding abortRule encodeOf
-returns-4 c =
-    met-answered _ _ _ _ _ _ _ _ (c .before .before .before .put-kind .ensures) (c .ended .ensures)
-    (passes-above _ _ _ _ _ (c .before .before .before .before .before .before .before .before .before .before .before .before .if1 .left) (passes-equal _ _ _ _ _ (c .before .before .before .before .before .before .before .before .before .before .if2 .left) (passes-found _ _ _ _ (c .before .before .before .before .before .before .before .before .find .ensures) _ _ (c .before .before .before .before .before .before .i .given .1) refl)))
+returns-2 c = λ s x y k f.
+    let b = c .before .before .before .before in
+    let p = passes-refusal s x y _ k _ _ _ f _ _ (b .before .before .refusal .ensures) (b .before .if1 .left) in
+    met-stage _ _ _ _ _ _ (c .before .before .closes .ensures s x y k (p .0) (b .none .ensures) aborted refl) (p .1)
 
 pub abort-spec : {M : Type 1} → statement M
 abort-spec =
     tie.close
     (tie.spec
+    refusal-requires
+    refused-requires
     returns
-    returns-2
-    find-requires
-    enum-known-i
-    enum-told
-    returns-3
-    put-kind-requires
-    ended-requires
+    none-requires
+    closes-requires
     same-length
-    returns-4)
+    returns-2)

@@ -1,57 +1,28 @@
 -- The session goes where the student's own stands, or in a free row; the answer stands in the buffer.
-use mathlib.Core.List.{List}
-use Prim.Native.Nat.{ℕ}
-use mathlib.Core.Path.{_≡_, refl, sym, ap, _∙_}
-use lib.ListN.{take}
-use lib.Seq.{length-take-le}
+use Prim.Native.Nat.{_<_}
+use mathlib.Core.Path.{_≡_, refl, sym}
+use lib.ListN.{length}
 use Rattle.flow.proofs.Chains.{stops-missing, passes-found}
-use Rattle.octets.proofs.Laws.{least-below}
-use Rattle.names.specs.Name.{octetsOf}
-use Rattle.names.proofs.Laws.{name-long, octets-least}
-use Rattle.records.specs.Time.{moment, plusOf}
-use Rattle.records.proofs.Laws.{run-name-long, rand-long}
-use Rattle.tables.specs.Tables.{placeFor}
-use Rattle.answer.specs.Answer.{encodeOf}
-use Rattle.outcome.proofs.Laws.{met-refused, met-answered}
+use Rattle.tables.specs.Tables.{SESSIONS}
 use Rattle.rules.specs.Response.{makes}
-use Rattle.response.proofs.Laws.{at-expiry, stored}
+use Rattle.turn.proofs.Laws.{taken-refusal}
+use Rattle.response.proofs.Laws.{taken-established, expires, to-session, to-made, seen-rand-long}
 use native.Mathlib.Omega.{arith}
 use borrow.Author.Needs.{needs}
 use Rattle.response.proofs.makes.Statement.{statement}
 use Rattle.response.proofs.makes.Tie as tie
 
--- the search was made with the octets of the run's IMPI
-placed : (k : tie.After-place) → k .place .result ≡ placeFor (octetsOf (k .before .before .before .before .before .before .before .args .row .impi)) (k .before .before .before .before .before .before .before .args .time) (k .before .before .before .before .before .before .before .args .state .sessions .rows)
-placed k =
-    let z = k .before .before .before .before .before .before .before in
-    let e : take (k .before .before .before .before .length .result) (z .args .row .impi .octets) ≡ octetsOf (z .args .row .impi) = rw (k .before .before .before .before .length .ensures) (octets-least (z .args .row .impi) (run-name-long (z .args .row) _ (z .good .1 .1 .1 .0))) in
-    k .place .ensures ∙ ap (λ (l : List ℕ). placeFor l (z .args .time) (z .args .state .sessions .rows)) e
+rand-good : (c : tie.After-rand2) → length (c .before .before .before .before .before .before .before .before .before .before .args .seen .run .rand) ≡ 16
+rand-good c =
+    let z = c .before .before .before .before .before .before .before .before .before .before in
+    seen-rand-long (z .args .seen) _ (z .good .0)
 
-length-requires : tie.Need-length-requires
-length-requires c κs = search needs
-
-array-share-prefix-o : tie.Need-array-share-prefix-o
-array-share-prefix-o c =
-    let z = c .before .before .before .before .before in
-    omega (arith, c .before .before .length .ensures, least-below (z .args .row .impi .len) 64, run-name-long (z .args .row) _ (z .good .1 .1 .1 .0))
-
-slice-aggregate-place : tie.Need-slice-aggregate-place
-slice-aggregate-place c =
-    let z = c .before .before .before .before .before .before in
-    sym (length-take-le (c .before .before .before .length .result) (z .args .row .impi .octets) (omega (arith, c .before .before .before .length .ensures, least-below (z .args .row .impi .len) 64, run-name-long (z .args .row) _ (z .good .1 .1 .1 .0))))
-
-place-requires : tie.Need-place-requires
-place-requires c κs = search needs
-
-enum-known-j : tie.Need-enum-known-j
-enum-known-j c = search needs
-
-enum-told : tie.Need-enum-told
-enum-told c = search needs
+refused-requires : tie.Need-refused-requires
+refused-requires c κs = search needs
 
 returns : tie.Need-returns
 unfolding makes
-returns c = met-refused _ _ _ _ (stops-missing _ _ _ _ (placed (c .before .before)) (c .enum-told .given .1))
+returns c = λ s x y k h g. taken-refusal s x y _ k _ _ _ _ (c .refused .ensures) (stops-missing _ _ _ _ refl (g .none (c .before .if1 .taken)))
 
 lifetime-or-requires : tie.Need-lifetime-or-requires
 lifetime-or-requires c κs = search needs
@@ -60,48 +31,44 @@ plus-requires : tie.Need-plus-requires
 plus-requires c κs = search needs
 
 slice-aggregate-put-made : tie.Need-slice-aggregate-put-made
-slice-aggregate-put-made c =
-    let z = c .before .before .before .before .before .before .before .before .before .before .before .before .before .before .before .before in
-    sym (rand-long (z .args .row) _ (z .good .1 .1 .1 .0))
+slice-aggregate-put-made c = sym (rand-good c)
 
 put-made-requires : tie.Need-put-made-requires
-put-made-requires c κs =
-    let z = c .before .before .before .before .before .before .before .before .before .before .before .before .before .before .before .before in
-    (z .pre .1, rand-long (z .args .row) _ (z .good .1 .1 .1 .0))
+put-made-requires c κs = (c .before .before .before .before .before .before .before .before .before .before .pre .1, rand-good c)
 
 session-requires : tie.Need-session-requires
 session-requires c κs = search needs
 
-established-requires : tie.Need-established-requires
-established-requires c κs = search needs
+none-requires : tie.Need-none-requires
+none-requires c κs = search needs
+
+answered-requires : tie.Need-answered-requires
+answered-requires c κs = search needs
 
 same-length : tie.Need-same-length
 same-length c = search needs
 
 returns-2 : tie.Need-returns-2
 unfolding makes
-returns-2 c =
-    let z = c .before .before .before .before .before .before .before .before .before .before .before .before .before .before .before .before .before .before .before .before .before in
-    let e = c .before .before .before .before .before .before .before .before .plus .ensures ∙ ap (plusOf (moment (z .args .time))) (c .before .before .before .before .before .before .before .before .before .lifetime-or .ensures) in
-    met-answered _ _ _ _ _ _ _ _ (at-expiry _ _ _ _ _ _ _ e (c .before .before .before .before .put-made .ensures)) (stored _ _ _ _ _ _ _ _ _ _ (c .established .ensures) (c .before .session .ensures) e)
-    (passes-found _ _ _ _ (placed (c .before .before .before .before .before .before .before .before .before .before .before .before .before .before)) _ _ (c .before .before .before .before .before .before .before .before .before .before .before .before .j .given .1) refl)
+returns-2 c = λ s x y k h g.
+    let b = c .before .before .before .before .before in
+    let j : _ < SESSIONS = b .before .before .before .before .before .before .before .before .if1 .left in
+    let e = expires s x y _ k _ _ _ (b .before .before .before .before .before .lifetime-or .ensures) (b .before .before .before .before .plus .ensures) in
+    taken-established s x y _ k _ _ _ _ _ _ _ (to-made s x y _ k _ _ _ e _ _ _ _ (b .put-made .ensures)) h _ (c .before .none .ensures) _ _
+    (to-session _ _ _ _ _ e (c .before .before .session .ensures)) j (c .answered .ensures) (passes-found _ _ _ _ refl _ _ (g .here j) refl)
 
 pub makes-spec : {M : Type 1} → statement M
 makes-spec =
     tie.close
     (tie.spec
-    length-requires
-    array-share-prefix-o
-    slice-aggregate-place
-    place-requires
-    enum-known-j
-    enum-told
+    refused-requires
     returns
     lifetime-or-requires
     plus-requires
     slice-aggregate-put-made
     put-made-requires
     session-requires
-    established-requires
+    none-requires
+    answered-requires
     same-length
     returns-2)
