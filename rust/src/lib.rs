@@ -126,7 +126,8 @@ pub struct Progress<'a> {
     pub end: End,
 }
 
-/// An open key server. It holds the runs, the sessions and their keys, and nobody else can read or change them.
+/// An open key server. It holds the runs, the sessions and their keys, and nobody else can read or change them. Where it
+/// is dropped its memory is filled with zeros first.
 pub struct Server {
     state: Box<raw::State>,
 }
@@ -193,6 +194,19 @@ impl Server {
     }
 }
 
+fn wipe(state: &mut raw::State) {
+    for word in &mut state.opaque {
+        // SAFETY: the word is ours. A volatile write stays, though nobody reads the word again.
+        unsafe { std::ptr::write_volatile(word, 0) };
+    }
+}
+
+impl Drop for Server {
+    fn drop(&mut self) {
+        wipe(&mut self.state);
+    }
+}
+
 /// Shows nothing of the state: it holds keys.
 impl fmt::Debug for Server {
     fn fmt(&self, f: &mut fmt::Formatter) -> fmt::Result {
@@ -233,4 +247,19 @@ pub fn kdf<'a>(fc: u8, run: &[u8], lens: &[usize], buffer: &'a mut [u8]) -> Resu
         raw::pr_kdf(fc, run.as_ptr(), run.len(), lens.as_ptr(), lens.len(), buffer.as_mut_ptr(), buffer.len())
     };
     answered(reply, buffer)
+}
+
+#[cfg(test)]
+mod tests {
+    use super::*;
+
+    #[test]
+    fn a_wiped_state_is_zeros_and_closed() {
+        let mut server = Server::open(b"bsf.example", 7, 3600).unwrap();
+        server.event(&[], b"\x01\x64\x03a@b", &mut [0; ROOM]).unwrap();
+        assert!(server.state.opaque.iter().any(|word| *word != 0));
+        wipe(&mut server.state);
+        assert!(server.state.opaque.iter().all(|word| *word == 0));
+        assert_eq!(server.event(&[], b"\x01\x64\x03a@b", &mut [0; ROOM]), Err(Refusal::NotOpen));
+    }
 }
