@@ -1,19 +1,16 @@
 -- The events that have arrived are answered the same whatever arrives after them: each body lies in the input so far.
-use Prim.Native.Nat.{ℕ, _+_, _-_, _≤_}
+use Prim.Native.Nat.{ℕ, _+_}
 use native.Mathlib.Omega.{arith}
 use mathlib.Core.Path.{_≡_, sym, ap, subst, _∙_}
 use mathlib.Core.List.{List, _++_}
-use lib.ListN.{length, take, drop, length-drop}
-use lib.Seq.{take-append-le, drop-append-le}
 use Rattle.flow.specs.Front.{_▹_}
-use Rattle.line.specs.Text.{between}
 use Rattle.shelves.specs.declared.Shelf.{Shelf}
 use Rattle.tables.specs.declared.State.{State}
 use Rattle.feed.specs.Frame.{frameAt}
 use Rattle.feed.specs.declared.Frame.{Frame}
 use Rattle.feed.specs.declared.Frame.the-variants.{Body, More, Bad}
 use Rattle.feed.proofs.Laws.{framed}
-use Rattle.feed.proofs.Arrived.{frame-kept}
+use Rattle.feed.proofs.Arrived.{between-kept, frame-kept}
 use Rattle.batch.specs.Batch.{nextOf, eventLine, Ran, none, one}
 
 unfoldable isMore : Frame → ℕ
@@ -22,10 +19,6 @@ isMore More = 1
 isMore Bad = 0
 
 module _ (input more : List ℕ) where
-  between-kept : (start end : ℕ) → start ≤ end → end ≤ length input → between (input ++ more) start end ≡ between input start end
-  between-kept start end h k =
-      ap (take (end - start)) (drop-append-le start input more (omega arith)) ∙ take-append-le (end - start) (drop start input) more (rw length-drop (omega arith))
-
   body-kept : (at start end : ℕ) → frameAt input at ≡ Body start end → frameAt (input ++ more) at ≡ Body start end
   unfolding isMore
   body-kept at start end e = frame-kept input more at (λ m. let z : _≡_ {A = ℕ} 1 0 = ap isMore (sym m ∙ e) in omega arith) ∙ e
@@ -35,5 +28,5 @@ module _ (input more : List ℕ) where
   ran-kept none = none
   ran-kept {shelf = shelf} {room = room} {s = s} {from = from} {first = first} (one {lines = lines} {t = t} {at = at} {place = place} start end r fits body) =
       let f = framed input at start end body in
-      let b = between-kept start end (omega (arith, f .body .least)) (f .body .inside) in
+      let b = between-kept input more start end (omega (arith, f .body .least)) (f .body .inside) in
       subst (λ x. Ran shelf (input ++ more) room s from first (lines ▹ eventLine place t shelf x) (nextOf t shelf x) end (place + 1)) b (one start end (ran-kept r) fits (body-kept at start end body))

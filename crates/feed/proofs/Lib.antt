@@ -2,3 +2,4 @@ pub mod Laws
 pub mod Filling
 pub mod Ends
 pub mod Arrived
+pub mod Opened

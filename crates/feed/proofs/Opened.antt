@@ -1,0 +1,157 @@
+-- An opening part that has arrived whole is read the same whatever arrives after it, and so is what is none; and the domain and the rows that it
+-- says where to find are the same.
+use Prim.Native.Nat.{ℕ, zero, suc, _+_, _≤_}
+use native.Mathlib.Omega.{arith}
+use mathlib.Core.Path.{_≡_, refl, ap, subst}
+use mathlib.Core.Bool.{Bool}
+use mathlib.Core.List.{List, _++_}
+use lib.Dec.{ltb, eqb}
+use lib.ListN.{length, getD}
+use Rattle.flow.specs.Choice.{pick}
+use Rattle.flow.proofs.Choices.{pick-all}
+use Rattle.line.specs.Ranges.{WORD, NAME, LIFETIME-LEAST, LIFETIME-MOST, GROUP}
+use Rattle.line.specs.Number.{numberAt}
+use Rattle.line.specs.Text.{between}
+use Rattle.line.specs.Name.{nameAt}
+use Rattle.line.specs.declared.Span.the-variants.{At}
+use Rattle.line.proofs.Reading.{num-all, span-all}
+use Rattle.line.proofs.Texts.{name-inside}
+use Rattle.shelves.specs.Shelf.{ROWS, part}
+use Rattle.shelves.specs.declared.Row.{Row}
+use Rattle.shelves.specs.declared.Shelf.{Shelf}
+use Rattle.feed.specs.Cut.{cutNumber}
+use Rattle.feed.specs.Opening.{cutName, rowStopped, rowAt, withRow, rowsAt, withRows, stopped, openingOf}
+use Rattle.feed.specs.Rows.{rowsOf, filled, shelfOf}
+use Rattle.feed.specs.declared.Opening.{Opening}
+use Rattle.feed.specs.declared.Opening.the-variants.{Whole, More, Bad}
+use Rattle.feed.specs.declared.RowRead.{RowRead}
+use Rattle.feed.specs.declared.RowRead.the-variants.{At as RowAt, More as RowMore, Bad as RowBad}
+use Rattle.feed.specs.declared.Rows.{Rows}
+use Rattle.feed.specs.declared.Rows.the-variants.{End, More as RowsMore, Bad as RowsBad}
+use Rattle.feed.proofs.Arrived.{alike, between-kept, Stays, pick-stays, here-stays, num-stays, text-stays}
+
+row-is-read : (peer peerEnd fqdn fqdnEnd : ℕ) (identity : Bool) (group required end : ℕ) → RowAt peer peerEnd fqdn fqdnEnd identity group required end ≡ RowMore → ⊥
+row-is-read peer peerEnd fqdn fqdnEnd identity group required end e = let z : _≡_ {A = ℕ} 0 1 = cc in omega arith
+
+row-is-bad : RowBad ≡ RowMore → ⊥
+row-is-bad e = let z : _≡_ {A = ℕ} 0 1 = cc in omega arith
+
+rows-are-read : (end : ℕ) → End end ≡ RowsMore → ⊥
+rows-are-read end e = let z : _≡_ {A = ℕ} 0 1 = cc in omega arith
+
+rows-are-bad : RowsBad ≡ RowsMore → ⊥
+rows-are-bad e = let z : _≡_ {A = ℕ} 0 1 = cc in omega arith
+
+-- a row, or what is none
+row-kept : (s more : List ℕ) (at : ℕ) → Stays RowMore (rowAt s at) (rowAt (s ++ more) at)
+unfolding pick
+row-kept s more at =
+    text-stays RowMore s more rowStopped refl _ _ at 1 NAME λ peer peerEnd p.
+    text-stays RowMore s more rowStopped refl _ _ peerEnd 1 NAME λ fqdn fqdnEnd q.
+    here-stays RowMore s more fqdnEnd _ _ λ h.
+    pick-stays RowMore (ltb 1 (getD s fqdnEnd 0)) (ltb 1 (getD (s ++ more) fqdnEnd 0)) (ap (ltb 1) (alike s more fqdnEnd h)) RowBad _ _
+    (num-stays RowMore s more rowStopped refl _ _ (fqdnEnd + 1) GROUP λ group a g.
+    num-stays RowMore s more rowStopped refl _ _ a WORD λ required end r whole.
+    ap (λ (o : ℕ). RowAt peer peerEnd fqdn fqdnEnd (eqb o 1) group required end) (alike s more fqdnEnd h))
+
+-- rows, or what are none
+rows-kept : (n : ℕ) (s more : List ℕ) (at : ℕ) → Stays RowsMore (rowsAt n s at) (rowsAt n (s ++ more) at)
+unfolding rowsAt withRow
+rows-kept zero s more at whole = refl
+rows-kept (suc n) s more at whole = go (rowAt s at) (row-kept s more at) (rows-kept n s more) whole
+  where
+    go : (x : RowRead) → Stays RowMore x (rowAt (s ++ more) at) → ((end : ℕ) → Stays RowsMore (rowsAt n s end) (rowsAt n (s ++ more) end))
+        → Stays RowsMore (withRow RowsMore RowsBad x (λ peer peerEnd fqdn fqdnEnd identity group required end. rowsAt n s end))
+        (withRow RowsMore RowsBad (rowAt (s ++ more) at) (λ peer peerEnd fqdn fqdnEnd identity group required end. rowsAt n (s ++ more) end))
+    go (RowAt peer peerEnd fqdn fqdnEnd identity group required end) stays next whole = rw (stays (λ e. row-is-read peer peerEnd fqdn fqdnEnd identity group required end e)) (next end whole)
+    go RowMore stays next whole = absurd (whole refl)
+    go RowBad stays next whole = rw (stays row-is-bad)
+
+-- the opening part, or what is none
+pub opening-kept : (s more : List ℕ) → Stays More (openingOf s) (openingOf (s ++ more))
+unfolding openingOf withRows pick
+opening-kept s more =
+    text-stays More s more stopped refl _ _ 0 1 NAME λ domain domainEnd d.
+    num-stays More s more stopped refl _ _ domainEnd WORD λ restart a r.
+    num-stays More s more stopped refl _ _ a LIFETIME-MOST λ lifetime b l.
+    pick-stays More (ltb lifetime LIFETIME-LEAST) (ltb lifetime LIFETIME-LEAST) refl Bad _ _
+    (num-stays More s more stopped refl _ _ b ROWS λ rows at n.
+    go domain domainEnd restart lifetime rows at (rowsAt rows s at) (rows-kept rows s more at))
+  where
+    go : (domain domainEnd restart lifetime rows at : ℕ) (x : Rows) → Stays RowsMore x (rowsAt rows (s ++ more) at)
+        → Stays More (withRows More Bad x (λ end. Whole domain domainEnd restart lifetime rows at end)) (withRows More Bad (rowsAt rows (s ++ more) at) (λ end. Whole domain domainEnd restart lifetime rows at end))
+    go domain domainEnd restart lifetime rows at (End end) stays whole = rw (stays (rows-are-read end))
+    go domain domainEnd restart lifetime rows at RowsMore stays whole = absurd (whole refl)
+    go domain domainEnd restart lifetime rows at RowsBad stays whole = rw (stays rows-are-bad)
+
+-- ---- what it says where to find
+
+no-rows : (end : ℕ) → RowsMore ≡ End end → ⊥
+no-rows end e = let z : _≡_ {A = ℕ} 0 1 = cc in omega arith
+
+bad-rows : (end : ℕ) → RowsBad ≡ End end → ⊥
+bad-rows end e = let z : _≡_ {A = ℕ} 0 1 = cc in omega arith
+
+module _ (s more : List ℕ) where
+  name-kept : (at a z : ℕ) → nameAt s at ≡ At a z → between (s ++ more) a z ≡ between s a z
+  name-kept at a z e = let i = name-inside s at a z e in between-kept s more a z (omega (arith, i .least)) (i .inside)
+
+  -- the names of a row
+  abbrev Names : RowRead → Type 0
+  Names (RowAt peer peerEnd fqdn fqdnEnd identity group required end) = (part (s ++ more) peer peerEnd ≡ part s peer peerEnd) × (part (s ++ more) fqdn fqdnEnd ≡ part s fqdn fqdnEnd)
+  Names RowMore = Unit {0}
+  Names RowBad = Unit {0}
+
+  names-kept : (at : ℕ) → Names (rowAt s at)
+  unfolding part
+  names-kept at =
+      span-all Names (rowStopped (cutName s at)) (nameAt s at) _ (none (cutName s at)) λ peer a h.
+      span-all Names (rowStopped (cutName s a)) (nameAt s a) _ (none (cutName s a)) λ fqdn b i.
+      pick-all Names (ltb b (length s)) _ _
+      (λ _. pick-all Names (ltb 1 (getD s b 0)) _ _ (λ _. tt) λ _.
+      num-all Names (rowStopped (cutNumber s (b + 1))) (numberAt s (b + 1) GROUP) _ (none (cutNumber s (b + 1))) λ group c j.
+      num-all Names (rowStopped (cutNumber s c)) (numberAt s c WORD) _ (none (cutNumber s c)) λ required end k.
+      (name-kept at peer a h, name-kept a fqdn b i))
+      (λ _. tt)
+    where
+      none : (cut : Bool) → Names (rowStopped cut)
+      none cut = pick-all Names cut RowMore RowBad (λ _. tt) (λ _. tt)
+
+  rows-alike : (n at end : ℕ) → rowsAt n s at ≡ End end → rowsOf n (s ++ more) at ≡ rowsOf n s at
+  unfolding rowsAt rowsOf withRow
+  rows-alike zero at end e = refl
+  rows-alike (suc n) at end e = go (rowAt s at) refl (row-kept s more at) (names-kept at) (rows-alike n) e
+    where
+      go : (x : RowRead) → rowAt s at ≡ x → Stays RowMore x (rowAt (s ++ more) at) → Names x → ((at end : ℕ) → rowsAt n s at ≡ End end → rowsOf n (s ++ more) at ≡ rowsOf n s at)
+          → withRow RowsMore RowsBad x (λ peer peerEnd fqdn fqdnEnd identity group required end. rowsAt n s end) ≡ End end → rowsOf (suc n) (s ++ more) at ≡ rowsOf (suc n) s at
+      go (RowAt peer peerEnd fqdn fqdnEnd identity group required next) e stays names rest r =
+          rw (stays (row-is-read peer peerEnd fqdn fqdnEnd identity group required next), e, names .0, names .1, rest next end r)
+      go RowMore e stays names rest r = absurd (no-rows end r)
+      go RowBad e stays names rest r = absurd (bad-rows end r)
+
+  abbrev Alike : Opening → Type 0
+  Alike (Whole domain domainEnd restart lifetime rows at end) = (between (s ++ more) domain domainEnd ≡ between s domain domainEnd) × (shelfOf (s ++ more) rows at ≡ shelfOf s rows at)
+  Alike More = Unit {0}
+  Alike Bad = Unit {0}
+
+  opening-alike : Alike (openingOf s)
+  unfolding openingOf withRows
+  opening-alike =
+      span-all Alike (stopped (cutName s 0)) (nameAt s 0) _ (none (cutName s 0)) λ domain a h.
+      num-all Alike (stopped (cutNumber s a)) (numberAt s a WORD) _ (none (cutNumber s a)) λ restart b i.
+      num-all Alike (stopped (cutNumber s b)) (numberAt s b LIFETIME-MOST) _ (none (cutNumber s b)) λ lifetime c j.
+      pick-all Alike (ltb lifetime LIFETIME-LEAST) _ _ (λ _. tt) λ _.
+      num-all Alike (stopped (cutNumber s c)) (numberAt s c ROWS) _ (none (cutNumber s c)) λ rows at k.
+      go domain a restart lifetime rows at h (rowsAt rows s at) refl
+    where
+      none : (cut : Bool) → Alike (stopped cut)
+      none cut = pick-all Alike cut More Bad (λ _. tt) (λ _. tt)
+
+      go : (domain a restart lifetime rows at : ℕ) → nameAt s 0 ≡ At domain a → (x : Rows) → rowsAt rows s at ≡ x → Alike (withRows More Bad x (λ end. Whole domain a restart lifetime rows at end))
+      go domain a restart lifetime rows at h (End end) e = (name-kept 0 domain a h, ap (λ (l : List Row). record { rows = filled ROWS l; count = rows }) (rows-alike rows at end e))
+      go domain a restart lifetime rows at h RowsMore e = tt
+      go domain a restart lifetime rows at h RowsBad e = tt
+
+  pub whole-kept : (domain domainEnd restart lifetime rows at end : ℕ) → openingOf s ≡ Whole domain domainEnd restart lifetime rows at end
+      → (between (s ++ more) domain domainEnd ≡ between s domain domainEnd) × (shelfOf (s ++ more) rows at ≡ shelfOf s rows at)
+  whole-kept domain domainEnd restart lifetime rows at end e = subst Alike e opening-alike
