@@ -2,7 +2,7 @@
 use Prim.Native.Nat.{ℕ, _+_, _-_, _≤_, _<_}
 use native.Mathlib.Omega.{arith}
 use mathlib.Core.Path.{_≡_, refl, sym, ap, subst, subst⁻¹, _∙_}
-use mathlib.Core.Bool.{Bool, true, false}
+use mathlib.Core.Bool.{Bool, true}
 use mathlib.Core.List.{List, [], append-nil}
 use lib.ListN.{length, take, drop, getD, length-append, length-drop, length-set}
 use lib.Seq.{take-append-seam}
@@ -34,7 +34,7 @@ use Rattle.outcome.specs.Outcome.{Done, octetsOf, stateOf, outcomeOf, Met}
 use Rattle.outcome.specs.declared.Outcome.{Outcome}
 use Rattle.outcome.proofs.Laws.{met-stage}
 use Rattle.rules.specs.Key.{keyRule, keyFor}
-use Rattle.rules.specs.Server.{askedIn, askedOf, stepOf}
+use Rattle.rules.specs.Server.{askedIn, stepOf}
 use Rattle.rules.specs.History.{eventOf}
 use Rattle.turn.specs.Turn.{turned}
 use Rattle.turn.specs.declared.Seen.{Seen}
@@ -50,7 +50,6 @@ use Rattle.printed.specs.Printed.{lineOf}
 use Rattle.printed.proofs.Laws.{line-long}
 use Rattle.batch.specs.Batch.{LINE, doneOf, lineTold, eventLine, badLine, Lined, Ran, none, one, lastLine, Ended, Served}
 use Rattle.batch.specs.declared.Why.the-variants.{More, Full, Bad}
-use Rattle.batch.specs.declared.Batch.{Batch}
 
 -- ---- what an outcome prints
 

@@ -1,6 +1,5 @@
 -- What is read of the opening part ends inside the input: each end of a chain of reads keeps what its reads say.
 use Prim.Native.Nat.{ℕ, zero, suc, _+_, _≤_}
-use native.Mathlib.Omega.{arith}
 use mathlib.Core.Path.{_≡_, subst}
 use mathlib.Core.Bool.{Bool}
 use mathlib.Core.List.{List}
@@ -8,7 +7,7 @@ use lib.ListN.{length, getD}
 use lib.Dec.{ltb}
 use Rattle.flow.specs.Choice.{pick}
 use Rattle.flow.proofs.Choices.{pick-all}
-use Rattle.line.specs.Ranges.{WORD, NAME, LIFETIME-LEAST, LIFETIME-MOST, GROUP}
+use Rattle.line.specs.Ranges.{WORD, LIFETIME-LEAST, LIFETIME-MOST, GROUP}
 use Rattle.line.specs.Number.{numberAt}
 use Rattle.line.specs.Name.{nameAt}
 use Rattle.line.proofs.Reading.{num-all, span-all}

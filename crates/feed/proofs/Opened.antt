@@ -1,6 +1,6 @@
 -- An opening part that has arrived whole is read the same whatever arrives after it, and so is what is none; and the domain and the rows that it
 -- says where to find are the same.
-use Prim.Native.Nat.{ℕ, zero, suc, _+_, _≤_}
+use Prim.Native.Nat.{ℕ, zero, suc, _+_}
 use native.Mathlib.Omega.{arith}
 use mathlib.Core.Path.{_≡_, refl, ap, subst}
 use mathlib.Core.Bool.{Bool}
@@ -18,7 +18,6 @@ use Rattle.line.proofs.Reading.{num-all, span-all}
 use Rattle.line.proofs.Texts.{name-inside}
 use Rattle.shelves.specs.Shelf.{ROWS, part}
 use Rattle.shelves.specs.declared.Row.{Row}
-use Rattle.shelves.specs.declared.Shelf.{Shelf}
 use Rattle.feed.specs.Cut.{cutNumber}
 use Rattle.feed.specs.Opening.{cutName, rowStopped, rowAt, withRow, rowsAt, withRows, stopped, openingOf}
 use Rattle.feed.specs.Rows.{rowsOf, filled, shelfOf}

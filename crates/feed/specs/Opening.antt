@@ -1,7 +1,7 @@
 -- 01, "The event program": the opening part is the domain text, restart, default lifetime, row count 0 to 16, and rows. A field that is not there
 -- asks for more input where the input ends within it; else the opening part is ill-formed or out of range.
 use Prim.Native.Nat.{ℕ, zero, suc, _+_}
-use mathlib.Core.Bool.{Bool, true, false}
+use mathlib.Core.Bool.{Bool}
 use mathlib.Core.List.{List}
 use lib.ListN.{length, getD}
 use lib.Dec.{eqb, ltb}

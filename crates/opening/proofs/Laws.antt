@@ -1,6 +1,6 @@
 -- An opening that is refused hands back the closed state; one that is not, the fresh one.
 use Prim.Native.Nat.{ℕ}
-use mathlib.Core.Path.{_≡_, refl, sym, ap, _∙_}
+use mathlib.Core.Path.{_≡_, ap, _∙_}
 use mathlib.Core.Bool.{true}
 use mathlib.Core.List.{List}
 use Rattle.flow.specs.Result.{Result, refused, ok}
@@ -8,7 +8,6 @@ use Rattle.names.specs.declared.Name.{Name}
 use Rattle.names.specs.Name.{nameOf}
 use Rattle.tables.specs.declared.State.{State}
 use Rattle.rules.specs.Opening.{closed, fresh}
-use Rattle.opening.specs.declared.Opening.{Opening}
 use Rattle.opening.specs.Opening.{openingOf}
 
 pub opening-refused : (n : ℕ) (s : State) (o : Result State) → s ≡ closed → refused n ≡ o → record { no = n; state = s } ≡ openingOf o

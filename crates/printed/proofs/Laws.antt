@@ -13,7 +13,7 @@ use borrow.Author.Tests.{lt-ltb, le-ltb}
 use Rattle.flow.specs.Choice.{pick}
 use Rattle.flow.specs.Front.{_▹_, front, Put}
 use Rattle.flow.proofs.Choices.{by-eq, by-ne, pick-all}
-use Rattle.flow.proofs.Fronts.{fields-length, fields-assoc, then-put, front-none}
+use Rattle.flow.proofs.Fronts.{fields-length, fields-assoc, then-put}
 use Rattle.printed.specs.Printed.{digit, decimalIn, decimal, pair, hex, dash, shown, lineOf}
 
 -- ---- decimal

@@ -3,7 +3,7 @@ use Prim.Native.Nat.{ℕ}
 use mathlib.Core.Path.{refl, ap}
 use Rattle.batch.specs.declared.Batch.{Batch}
 use Rattle.exports.specs.declared.Batched.{Batched}
-use Rattle.exports.specs.Exports.{batched, numberOf, progressOf, Progressed}
+use Rattle.exports.specs.Exports.{batched, progressOf}
 use Rattle.exports.specs.Exports.Progressed.{beyond, within}
 use native.Mathlib.Omega.{arith}
 use borrow.Author.Needs.{needs}

@@ -1,6 +1,5 @@
 -- Every field is zero, and every row free.
 use Rattle.rules.specs.Opening.{closed}
-use native.Mathlib.Omega.{arith}
 use borrow.Author.Needs.{needs}
 use Rattle.opening.proofs.closed.Statement.{statement}
 use Rattle.opening.proofs.closed.Tie as tie

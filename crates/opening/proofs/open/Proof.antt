@@ -3,7 +3,6 @@ use mathlib.Core.Path.{refl}
 use Rattle.flow.proofs.Chains.{chain, passes-above, passes-other}
 use Rattle.rules.specs.Opening.{openRule}
 use Rattle.opening.proofs.Laws.{opening-refused, opening-made, opened-fresh}
-use native.Mathlib.Omega.{arith}
 use borrow.Author.Needs.{needs}
 use Rattle.opening.proofs.open.Statement.{statement}
 use Rattle.opening.proofs.open.Tie as tie
