@@ -8,18 +8,14 @@ use mathlib.Core.List.{List, _++_}
 use lib.Dec.{ltb, eqb}
 use lib.ListN.{length, getD}
 use Rattle.flow.specs.Choice.{pick}
-use Rattle.flow.proofs.Choices.{pick-all}
 use Rattle.line.specs.Ranges.{WORD, NAME, LIFETIME-LEAST, LIFETIME-MOST, GROUP}
-use Rattle.line.specs.Number.{numberAt}
 use Rattle.line.specs.Text.{between}
 use Rattle.line.specs.Name.{nameAt}
 use Rattle.line.specs.declared.Span.the-variants.{At}
-use Rattle.line.proofs.Reading.{num-all, span-all}
 use Rattle.line.proofs.Texts.{name-inside}
 use Rattle.shelves.specs.Shelf.{ROWS, part}
 use Rattle.shelves.specs.declared.Row.{Row}
-use Rattle.feed.specs.Cut.{cutNumber}
-use Rattle.feed.specs.Opening.{cutName, rowStopped, rowAt, withRow, rowsAt, withRows, stopped, openingOf}
+use Rattle.feed.specs.Opening.{rowStopped, rowAt, withRow, rowsAt, withRows, stopped, openingOf}
 use Rattle.feed.specs.Rows.{rowsOf, filled, shelfOf}
 use Rattle.feed.specs.declared.Opening.{Opening}
 use Rattle.feed.specs.declared.Opening.the-variants.{Whole, More, Bad}
@@ -27,6 +23,7 @@ use Rattle.feed.specs.declared.RowRead.{RowRead}
 use Rattle.feed.specs.declared.RowRead.the-variants.{At as RowAt, More as RowMore, Bad as RowBad}
 use Rattle.feed.specs.declared.Rows.{Rows}
 use Rattle.feed.specs.declared.Rows.the-variants.{End, More as RowsMore, Bad as RowsBad}
+use Rattle.feed.proofs.Ends.{row-all, opening-all}
 use Rattle.feed.proofs.Arrived.{alike, between-kept, Stays, pick-stays, here-stays, num-stays, text-stays}
 
 row-is-read : (peer peerEnd fqdn fqdnEnd : ℕ) (identity : Bool) (group required end : ℕ) → RowAt peer peerEnd fqdn fqdnEnd identity group required end ≡ RowMore → ⊥
@@ -103,18 +100,7 @@ module _ (s more : List ℕ) where
 
   names-kept : (at : ℕ) → Names (rowAt s at)
   unfolding part
-  names-kept at =
-      span-all Names (rowStopped (cutName s at)) (nameAt s at) _ (none (cutName s at)) λ peer a h.
-      span-all Names (rowStopped (cutName s a)) (nameAt s a) _ (none (cutName s a)) λ fqdn b i.
-      pick-all Names (ltb b (length s)) _ _
-      (λ _. pick-all Names (ltb 1 (getD s b 0)) _ _ (λ _. tt) λ _.
-      num-all Names (rowStopped (cutNumber s (b + 1))) (numberAt s (b + 1) GROUP) _ (none (cutNumber s (b + 1))) λ group c j.
-      num-all Names (rowStopped (cutNumber s c)) (numberAt s c WORD) _ (none (cutNumber s c)) λ required end k.
-      (name-kept at peer a h, name-kept a fqdn b i))
-      (λ _. tt)
-    where
-      none : (cut : Bool) → Names (rowStopped cut)
-      none cut = pick-all Names cut RowMore RowBad (λ _. tt) (λ _. tt)
+  names-kept at = row-all Names s at tt tt (λ peer a fqdn b identity group required c end h i k. (name-kept at peer a h, name-kept a fqdn b i))
 
   rows-alike : (n at end : ℕ) → rowsAt n s at ≡ End end → rowsOf n (s ++ more) at ≡ rowsOf n s at
   unfolding rowsAt rowsOf withRow
@@ -134,22 +120,8 @@ module _ (s more : List ℕ) where
   Alike Bad = Unit {0}
 
   opening-alike : Alike (openingOf s)
-  unfolding openingOf withRows
   opening-alike =
-      span-all Alike (stopped (cutName s 0)) (nameAt s 0) _ (none (cutName s 0)) λ domain a h.
-      num-all Alike (stopped (cutNumber s a)) (numberAt s a WORD) _ (none (cutNumber s a)) λ restart b i.
-      num-all Alike (stopped (cutNumber s b)) (numberAt s b LIFETIME-MOST) _ (none (cutNumber s b)) λ lifetime c j.
-      pick-all Alike (ltb lifetime LIFETIME-LEAST) _ _ (λ _. tt) λ _.
-      num-all Alike (stopped (cutNumber s c)) (numberAt s c ROWS) _ (none (cutNumber s c)) λ rows at k.
-      go domain a restart lifetime rows at h (rowsAt rows s at) refl
-    where
-      none : (cut : Bool) → Alike (stopped cut)
-      none cut = pick-all Alike cut More Bad (λ _. tt) (λ _. tt)
-
-      go : (domain a restart lifetime rows at : ℕ) → nameAt s 0 ≡ At domain a → (x : Rows) → rowsAt rows s at ≡ x → Alike (withRows More Bad x (λ end. Whole domain a restart lifetime rows at end))
-      go domain a restart lifetime rows at h (End end) e = (name-kept 0 domain a h, ap (λ (l : List Row). record { rows = filled ROWS l; count = rows }) (rows-alike rows at end e))
-      go domain a restart lifetime rows at h RowsMore e = tt
-      go domain a restart lifetime rows at h RowsBad e = tt
+      opening-all Alike s tt tt (λ domain a restart lifetime c rows at end h k e. (name-kept 0 domain a h, ap (λ (l : List Row). record { rows = filled ROWS l; count = rows }) (rows-alike rows at end e)))
 
   pub whole-kept : (domain domainEnd restart lifetime rows at end : ℕ) → openingOf s ≡ Whole domain domainEnd restart lifetime rows at end
       → (between (s ++ more) domain domainEnd ≡ between s domain domainEnd) × (shelfOf (s ++ more) rows at ≡ shelfOf s rows at)
