@@ -1,4 +1,4 @@
-/* SHA-256 and HMAC in plain C, of the same shape as crates/rounds, sha256 and hmac: what the proved code is measured against.
+/* SHA-256 and HMAC in plain C, of the same shape as crates/sha256_block, sha256 and hmac: what the proved code is measured against.
    NAME(x) is the name of x in this build, so that the files of two compilers link into one program. */
 #include <stddef.h>
 #include <stdint.h>

@@ -6,11 +6,11 @@ use mathlib.Core.List.{List, _++_}
 use Rattle.flow.specs.Front.{_▹_}
 use Rattle.shelves.specs.declared.Shelf.{Shelf}
 use Rattle.tables.specs.declared.State.{State}
-use Rattle.feed.specs.Frame.{frameAt}
-use Rattle.feed.specs.declared.Frame.{Frame}
-use Rattle.feed.specs.declared.Frame.the-variants.{Body, More, Bad}
-use Rattle.feed.proofs.Laws.{framed}
-use Rattle.feed.proofs.Arrived.{between-kept, frame-kept}
+use Rattle.program.specs.Frame.{frameAt}
+use Rattle.program.specs.declared.Frame.{Frame}
+use Rattle.program.specs.declared.Frame.the-variants.{Body, More, Bad}
+use Rattle.program.proofs.Laws.{framed}
+use Rattle.program.proofs.Arrived.{between-kept, frame-kept}
 use Rattle.batch.specs.Batch.{nextOf, eventLine, Ran, none, one}
 
 unfoldable isMore : Frame → ℕ

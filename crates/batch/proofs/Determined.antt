@@ -12,12 +12,13 @@ use borrow.Author.Tests.{leb-true, leb-false}
 use Rattle.flow.specs.Front.{_▹_, front}
 use Rattle.flow.proofs.Choices.{split}
 use Rattle.line.specs.Text.{between}
+use Rattle.limits.specs.Limits.{LINE}
 use Rattle.shelves.specs.declared.Shelf.{Shelf}
 use Rattle.tables.specs.declared.State.{State}
-use Rattle.feed.specs.Frame.{frameAt}
-use Rattle.feed.specs.declared.Frame.{Frame}
-use Rattle.feed.specs.declared.Frame.the-variants.{Body, More as FrameMore, Bad as FrameBad}
-use Rattle.batch.specs.Batch.{LINE, nextOf, eventLine, Ran, none, one, lastLine, Ended, Served}
+use Rattle.program.specs.Frame.{frameAt}
+use Rattle.program.specs.declared.Frame.{Frame}
+use Rattle.program.specs.declared.Frame.the-variants.{Body, More as FrameMore, Bad as FrameBad}
+use Rattle.batch.specs.Batch.{nextOf, eventLine, Ran, none, one, lastLine, Ended, Served}
 use Rattle.batch.specs.declared.Why.{Why}
 use Rattle.batch.specs.declared.Why.the-variants.{More, Full, Bad}
 use Rattle.batch.specs.declared.Batch.{Batch}

@@ -4,25 +4,32 @@ use native.Mathlib.Omega.{arith}
 use mathlib.Core.Path.{_≡_, refl, sym, ap, subst, subst⁻¹, _∙_}
 use mathlib.Core.Bool.{Bool, true}
 use mathlib.Core.List.{List, [], append-nil}
+use mathlib.Core.Option.{Option}
+use lib.Dec.{ltb}
 use lib.ListN.{length, take, drop, getD, length-append, length-drop, length-set}
 use lib.Seq.{take-append-seam}
 use borrow.Author.Tests.{lt-ltb, le-ltb}
+use Rattle.limits.specs.Limits.{RUNS, SESSIONS, ROOM, LINE}
 use Rattle.flow.specs.Choice.{pick}
-use Rattle.flow.specs.Result.{Result, refused, ok, mapR}
+use Rattle.flow.specs.Refusals.{FORM, CLOCK}
+use Rattle.flow.specs.Result.{Result, refused, ok, mapR, _>>_, refuse}
 use Rattle.flow.specs.Front.{front, _▹_, Put, Wrote}
 use Rattle.flow.specs.Reply.{replyOf, bufferOf}
 use Rattle.flow.specs.declared.Reply.{Reply}
 use Rattle.flow.proofs.Fronts.{next-put, front-none}
 use Rattle.line.specs.Text.{between}
-use Rattle.shelves.specs.Shelf.{isRow, taken, policyOf, policyFor}
+use Rattle.shelves.specs.Shelf.{isRow, taken, policyOf, policyFor as policySaid}
 use Rattle.shelves.specs.declared.Row.{Row}
 use Rattle.shelves.proofs.Laws.{policyFrom, policy-all, policy-past, front-here}
-use Rattle.sought.proofs.Laws.{row-here}
+use Rattle.flow.proofs.Ends.{row-here}
 use Rattle.shelves.specs.declared.Shelf.{Shelf}
 use Rattle.shelves.specs.declared.Policy.{Policy}
 use Rattle.names.specs.declared.Name.{Name}
-use Rattle.event.specs.Layout.{eventOf as decoded}
-use Rattle.event.specs.declared.Event.{Event}
+use Rattle.event.specs.Values.{EventValues}
+use Rattle.event.specs.Table.{decoded}
+use Rattle.event.specs.Meaning.{meaning}
+use Rattle.event.specs.Placed.{Reads}
+use Rattle.event.specs.declared.Decoded.{Decoded}
 use Rattle.records.specs.Time.{moment}
 use Rattle.records.specs.declared.Lifetime.{Lifetime}
 use Rattle.tables.specs.Tables.{putRun, putSession}
@@ -34,21 +41,21 @@ use Rattle.outcome.specs.Outcome.{Done, octetsOf, stateOf, outcomeOf, Met}
 use Rattle.outcome.specs.declared.Outcome.{Outcome}
 use Rattle.outcome.proofs.Laws.{met-stage}
 use Rattle.rules.specs.Key.{keyRule, keyFor}
-use Rattle.rules.specs.Server.{askedIn, stepOf}
+use Rattle.rules.specs.Server.{stepOf, policyFor}
 use Rattle.rules.specs.History.{eventOf}
-use Rattle.turn.specs.Turn.{turned}
-use Rattle.turn.specs.declared.Seen.{Seen}
-use Rattle.turn.specs.declared.Turn.{Turn}
-use Rattle.turns.specs.Turns.{askOf, policyIn, Looks, Takes}
-use Rattle.turns.specs.declared.Ask.{Ask}
-use Rattle.turns.proofs.Laws.{named, asked-rule}
-use Rattle.feed.specs.Frame.{frameAt}
-use Rattle.feed.specs.declared.Frame.{Frame}
-use Rattle.feed.specs.declared.Frame.the-variants.{Body, More as FrameMore, Bad as FrameBad}
-use Rattle.feed.proofs.Laws.{framed}
-use Rattle.printed.specs.Printed.{lineOf}
-use Rattle.printed.proofs.Laws.{line-long}
-use Rattle.batch.specs.Batch.{LINE, doneOf, lineTold, eventLine, badLine, Lined, Ran, none, one, lastLine, Ended, Served}
+use Rattle.outcome.specs.Turn.{turned}
+use Rattle.outcome.specs.declared.Seen.{Seen}
+use Rattle.outcome.specs.declared.Turn.{Turn}
+use Rattle.dispatch.specs.Turns.{askOf, policyIn, Looks, Takes}
+use Rattle.dispatch.specs.declared.Ask.{Ask}
+use Rattle.dispatch.proofs.Keys.{key-asked, key-shelf, shelf-policy}
+use Rattle.program.specs.Frame.{frameAt}
+use Rattle.program.specs.declared.Frame.{Frame}
+use Rattle.program.specs.declared.Frame.the-variants.{Body, More as FrameMore, Bad as FrameBad}
+use Rattle.program.proofs.Laws.{framed}
+use Rattle.program.specs.Printed.{lineOf}
+use Rattle.program.proofs.Lines.{line-long}
+use Rattle.batch.specs.Batch.{doneOf, lineTold, eventLine, badLine, Lined, Ran, none, one, lastLine, Ended, Served}
 use Rattle.batch.specs.declared.Why.the-variants.{More, Full, Bad}
 
 -- ---- what an outcome prints
@@ -107,39 +114,47 @@ packed ready domain restart lifetime clock last runs sessions =
 -- what an event did: the next state, its tables as long as before, and the reply, whose answer stands in a buffer of 160 octets
 pub record Stepped (t : State) (shelf : Shelf) (body old : List ℕ) (next : State) (reply : Reply) (new : List ℕ) : Type 0 where
   pub met : Met t (doneOf t shelf body) old (record { state = next; reply = reply }) new
-  pub room : length old ≡ 160
+  pub room : length old ≡ ROOM
   pub long : length new ≡ length old
-  pub runs-long : length (next .runs .rows) ≡ 32
-  pub sessions-long : length (next .sessions .rows) ≡ 64
+  pub runs-long : length (next .runs .rows) ≡ RUNS
+  pub sessions-long : length (next .sessions .rows) ≡ SESSIONS
 
-module _ (t : State) (shelf : Shelf) (body old new : List ℕ) (n : length old ≡ 160) (l : length new ≡ length old) (a : length (t .runs .rows) ≡ 32) (b : length (t .sessions .rows) ≡ 64) where
+module _ (t : State) (shelf : Shelf) (body old new : List ℕ) (n : length old ≡ ROOM) (l : length new ≡ length old) (a′ : length (t .runs .rows) ≡ RUNS)
+    (b : length (t .sessions .rows) ≡ SESSIONS) where
   -- a KEY changes no state
-  pub stepped-key : (e : Event) (k : Ask) (w : Policy) (r : Reply) → e ≡ decoded body → k ≡ askOf (t .ready) e → k .key ≡ true
-      → w ≡ policyFor (take (shelf .count) (shelf .rows)) body (k .shelf)
-      → Met t (keyRule (keyFor (between body (k .naf) (k .nafend))) t w (k .time) (between body (k .btid) (k .btidend)) (k .application)) old (record { state = t; reply = r }) new
+  pub stepped-key : (d : Decoded) (k : Ask) (w : Policy) (r : Reply) (i : Reads body d) (q : k ≡ askOf (t .ready) d) (h : k .key ≡ true)
+      → w ≡ policySaid (take (shelf .count) (shelf .rows)) body (k .shelf)
+      → (let v = key-asked body (t .ready) d k (i .placed) q h .values in
+      Met t (refuse CLOCK (ltb (k .time) (t .clock .0)) >> keyRule (keyFor (v .naf)) t w (k .time) v) old (record { state = t; reply = r }) new)
       → Stepped t shelf body old t r new
   unfolding eventOf
-  stepped-key e k w r p q h g m =
+  stepped-key d k w r i q h g m =
       let rows = take (shelf .count) (shelf .rows) in
-      let f = g ∙ ap (policyFor rows body) (named _ e k q h .shelf-is ∙ ap askedIn p) in
+      let a = key-asked body (t .ready) d k (i .placed) q h in
+      let f = g ∙ shelf-policy rows body (k .shelf) (key-shelf body (t .ready) d k i q (a .is-open)) in
       record {
-        met = met-stage _ _ _ _ _ _ m (asked-rule t body e k p q h w 160 (omega arith) ∙ ap (λ (v : Policy). stepOf t v body 160) f);
+        met =
+            met-stage _ _ _ _ _ _ m
+            (a .rule-is t w ROOM (a .is-open) (omega arith) ∙ ap (λ (x : Option EventValues). stepOf t w x ROOM) (i .means) ∙ ap (λ (v : Policy). stepOf t v (decoded body) ROOM) f);
         room = n;
         long = l;
-        runs-long = a;
+        runs-long = a′;
         sessions-long = b;
       }
 
   -- any other event takes a turn on its two rows
-  pub stepped-turn : (e : Event) (v : Seen) (x y : ℕ) (r : Turn) → Looks t x y v body e → Takes v body e old r new
-      → Stepped t shelf body old (packed (t .ready) (t .domain) (t .restart) (t .lifetime) (r .clock) (r .last) (putRun (t .runs) x (r .run)) (putSession (t .sessions) y (r .session))) (r .reply) new
-  unfolding eventOf turned stored
-  stepped-turn e v x y r k h =
+  pub stepped-turn : (d : Decoded) (v : Seen) (x y : ℕ) (r : Turn) → Reads body d → Looks t x y v body d → Takes v body d old r new
+      → Stepped t shelf body old
+      (packed (t .ready) (t .domain) (t .restart) (t .lifetime) (r .clock) (r .last) (putRun (t .runs) x (r .run)) (putSession (t .sessions) y (r .session)))
+      (r .reply) new
+  unfolding eventOf turned stored putRun putSession
+  stepped-turn d v x y r i k h =
+      let w = policyFor (take (shelf .count) (shelf .rows)) (decoded body) in
       record {
-        met = met-stage _ _ _ _ _ _ (h t _ x y k) (ap (stepOf t _ body) n);
+        met = met-stage _ _ _ _ _ _ (h t w x y k) (ap (stepOf t w (meaning body d)) n ∙ ap (λ (z : Option EventValues). stepOf t w z ROOM) (i .means));
         room = n;
         long = l;
-        runs-long = length-set (t .runs .rows) x (r .run) ∙ a;
+        runs-long = length-set (t .runs .rows) x (r .run) ∙ a′;
         sessions-long = length-set (t .sessions .rows) y (r .session) ∙ b;
       }
 
@@ -171,7 +186,7 @@ unfolding _▹_
 same-lines x = append-nil x
 
 module _ (shelf : Shelf) (input : List ℕ) (s : State) (from first : ℕ) (old : List ℕ) (t : State) (at place len : ℕ) (new : List ℕ) (w : Running shelf input s from first old t at place len new) where
-  pub running-more : (next : State) (reply : Reply) (zeros buffer : List ℕ) (start end stop : ℕ) (f : Frame) (last : List ℕ) → 364 ≤ length new - len → f ≡ frameAt input at → f ≡ Body start end
+  pub running-more : (next : State) (reply : Reply) (zeros buffer : List ℕ) (start end stop : ℕ) (f : Frame) (last : List ℕ) → LINE ≤ length new - len → f ≡ frameAt input at → f ≡ Body start end
       → Stepped t shelf (between input start end) zeros next reply buffer → Lined place reply buffer len stop new last → length last ≡ length new
       → Running shelf input s from first old next end (place + 1) stop last
   running-more next reply zeros buffer start end stop f last h e g d p l =
@@ -189,20 +204,20 @@ module _ (shelf : Shelf) (input : List ℕ) (s : State) (from first : ℕ) (old 
         far = omega (arith, w .far, i .after .later);
       }
 
-  room-left : 364 ≤ length new - len → length (w .lines) + LINE ≤ length old
+  room-left : LINE ≤ length new - len → length (w .lines) + LINE ≤ length old
   room-left h = omega (arith, w .wrote .count, w .long, w .fits)
 
-  pub served-more : (f : Frame) → f ≡ frameAt input at → f ≡ FrameMore → 364 ≤ length new - len → Served shelf input s from first (record { state = t; at = at; place = place; len = len; why = More }) old new
+  pub served-more : (f : Frame) → f ≡ frameAt input at → f ≡ FrameMore → LINE ≤ length new - len → Served shelf input s from first (record { state = t; at = at; place = place; len = len; why = More }) old new
   unfolding Ended lastLine
   served-more f e g h =
       record { lines = w .lines; ran = w .ran; ended = (room-left h, sym e ∙ g); wrote = rw same-lines (w .wrote); inside = w .inside; fits = w .fits }
 
-  pub served-full : length new - len < 364 → Served shelf input s from first (record { state = t; at = at; place = place; len = len; why = Full }) old new
+  pub served-full : length new - len < LINE → Served shelf input s from first (record { state = t; at = at; place = place; len = len; why = Full }) old new
   unfolding Ended lastLine
   served-full h =
       record { lines = w .lines; ran = w .ran; ended = omega (arith, w .wrote .count, w .long); wrote = rw same-lines (w .wrote); inside = w .inside; fits = w .fits }
 
-  pub served-bad : (f : Frame) (end : ℕ) (last : List ℕ) → f ≡ frameAt input at → f ≡ FrameBad → 364 ≤ length new - len → Put (badLine place) len end new last
+  pub served-bad : (f : Frame) (end : ℕ) (last : List ℕ) → f ≡ frameAt input at → f ≡ FrameBad → LINE ≤ length new - len → Put (badLine place) len end new last
       → Served shelf input s from first (record { state = t; at = at; place = place; len = end; why = Bad }) old last
   unfolding Ended lastLine
   served-bad f end last e g h p =
@@ -212,5 +227,5 @@ module _ (shelf : Shelf) (input : List ℕ) (s : State) (from first : ℕ) (old 
         ended = (room-left h, sym e ∙ g);
         wrote = next-put (w .lines) (badLine place) len end old new last p (w .wrote);
         inside = w .inside;
-        fits = omega (arith, p .place, line-long place 3 [], w .long, w .fits);
+        fits = omega (arith, p .place, line-long place FORM [], w .long, w .fits);
       }

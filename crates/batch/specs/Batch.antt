@@ -3,25 +3,22 @@ use Prim.Native.Nat.{ℕ, _+_, _≤_, _<_}
 use mathlib.Core.Path.{_≡_}
 use mathlib.Core.List.{List, []}
 use lib.ListN.{length, take}
+use Rattle.flow.specs.Refusals.{FORM}
 use Rattle.flow.specs.Result.{Result, refused, ok, mapR}
 use Rattle.flow.specs.declared.Reply.{Reply}
 use Rattle.flow.specs.Front.{_▹_, Put, Wrote}
 use Rattle.line.specs.Text.{between}
-use Rattle.answer.specs.Answer.{ROOM}
+use Rattle.limits.specs.Limits.{ROOM, LINE}
 use Rattle.shelves.specs.declared.Shelf.{Shelf}
 use Rattle.tables.specs.declared.State.{State}
 use Rattle.outcome.specs.Outcome.{Done, octetsOf, stateOf}
 use Rattle.rules.specs.History.{eventOf}
-use Rattle.feed.specs.Frame.{frameAt}
-use Rattle.feed.specs.declared.Frame.the-variants.{Body, More as FrameMore, Bad as FrameBad}
-use Rattle.printed.specs.Printed.{lineOf}
+use Rattle.program.specs.Frame.{frameAt}
+use Rattle.program.specs.declared.Frame.the-variants.{Body, More as FrameMore, Bad as FrameBad}
+use Rattle.program.specs.Printed.{lineOf}
 use Rattle.batch.specs.declared.Why.{Why}
 use Rattle.batch.specs.declared.Why.the-variants.{More, Full, Bad}
 use Rattle.batch.specs.declared.Batch.{Batch}
-
--- the room that the longest line needs: two numbers of twenty digits, two blanks, 160 octets in hex, and the end of the line
-abbrev pub LINE : ℕ
-LINE = 364
 
 -- what an event does, with the rows of the shelf
 abbrev pub doneOf : State → Shelf → List ℕ → Result Done
@@ -40,7 +37,7 @@ eventLine place s shelf body = lineTold place (mapR octetsOf (doneOf s shelf bod
 
 -- a bad length prints its place with "3 -"
 abbrev pub badLine : ℕ → List ℕ
-badLine place = lineOf place 3 []
+badLine place = lineOf place FORM []
 
 -- the line of a reply stands from at up to end, no longer than there is room; buffer is what the reply's answer was written to
 pub record Lined (place : ℕ) (reply : Reply) (buffer : List ℕ) (at end : ℕ) (old new : List ℕ) : Type 0 where

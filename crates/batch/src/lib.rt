@@ -1,34 +1,17 @@
 // The events that have arrived, answered one after another, each on the state last handed back, and a line for each. Document 01, "The event program".
-use feed::Frame;
 use flow::Reply;
+use outcome::Seen;
+use program::Frame;
 use records::Moment;
 use shelves::Shelf;
 use tables::State;
-use turn::Seen;
 ghost use Prim.Native.Nat.{_+_, _≤_, _<_, _^_};
 ghost use mathlib.Core.Path.{_≡_};
 ghost use lib.ListN.{length};
 ghost use Rattle.flow.specs.Front.{Put};
-ghost use Rattle.answer.specs.Answer.{ROOM};
-ghost use Rattle.printed.specs.Printed.{lineOf};
-ghost use Rattle.batch.specs.Batch.{LINE, Lined, badLine, Served};
-
-// The room for an answer.
-const ROOM: usize = 160;
-
-// The rows of the two tables.
-const RUNS: usize = 32;
-
-const SESSIONS: usize = 64;
-
-// The rows of the shelf table.
-const ROWS: usize = 16;
-
-// The room that the longest line needs.
-const LINE: usize = 364;
-
-// What stands where an event is to be and is none is refused with 3 FORM.
-const FORM: u32 = 3;
+ghost use Rattle.limits.specs.Limits.{ROOM, LINE};
+ghost use Rattle.program.specs.Printed.{lineOf};
+ghost use Rattle.batch.specs.Batch.{Lined, badLine, Served};
 
 // Why a batch ended: more input is needed for the next event, there is no room for its line, or what stands there is no event.
 pub enum Why {
@@ -53,7 +36,7 @@ fn tell(reply: Reply, buffer: &[u8], place: u64, out: &mut [u8], at: usize) -> u
 {
     let len = reply.len;
     let number = reply.no;
-    let written = printed::put_line(&mut out[at..], place, number, &buffer[..len]);
+    let written = program::put_line(&mut out[at..], place, number, &buffer[..len]);
     at + written
 }
 
@@ -62,7 +45,7 @@ fn put_bad(out: &mut [u8], at: usize, place: u64) -> usize
     requires { ⌜ at + LINE ≤ length (now out) ⌝ }
     ensures { λ r. ⌜ Put (badLine place) at r (now (out .entry)) (now (out .exit)) ⌝ }
 {
-    let written = printed::put_line(&mut out[at..], place, FORM, &[]);
+    let written = program::put_line(&mut out[at..], place, flow::FORM, &[]);
     at + written
 }
 
@@ -90,18 +73,18 @@ pub fn serve(
     let mut at = from;
     let mut place = first;
     let mut len: usize = 0;
-    while LINE <= out.len() - len {
-        match feed::read_frame(input, at) {
+    while limits::LINE <= out.len() - len {
+        match program::read_frame(input, at) {
             Frame::Body(start, end) => {
                 let body = &input[start..end];
-                let mut buffer = [0u8; ROOM];
+                let mut buffer = [0u8; limits::ROOM];
                 let event = event::decode(body);
-                let ask = turns::asked_by(ready, event);
+                let ask = dispatch::asked_by(ready, event);
                 let mut reply = Reply { no: 0, len: 0 };
                 let key = ask.key;
                 if key {
                     let asked = ask.shelf;
-                    let count = octets::least(shelf.count, ROWS);
+                    let count = octets::least(shelf.count, limits::ROWS);
                     let mut r: usize = 0;
                     while r < count {
                         let row = shelf.rows[r];
@@ -110,55 +93,55 @@ pub fn serve(
                         }
                         r += 1;
                     }
-                    let listed = shelf.rows[r % ROWS];
-                    let policy = turns::policy_of(r, count, listed);
-                    let mut j: usize = 0;
-                    while j < SESSIONS {
+                    let listed = shelf.rows[r % limits::ROWS];
+                    let policy = dispatch::policy_of(r, count, listed);
+                    let mut j = dispatch::search_from(policy);
+                    while j < limits::SESSIONS {
                         let row = sessions.rows[j];
-                        if turns::is_named(ask, body, domain, row) {
+                        if dispatch::is_named(ask, body, domain, row) {
                             break;
                         }
                         j += 1;
                     }
-                    let session = sessions.rows[j % SESSIONS];
-                    reply = turns::key(ask, body, clock, policy, j, session, &mut buffer);
+                    let session = sessions.rows[j % limits::SESSIONS];
+                    reply = dispatch::key(ask, body, clock, policy, j, session, &mut buffer);
                 } else {
                     let mut own: usize = 0;
-                    while own < RUNS {
+                    while own < limits::RUNS {
                         let row = runs.rows[own];
-                        if seeks::run(event, row) {
+                        if dispatch::is_its_run(event, row) {
                             break;
                         }
                         own += 1;
                     }
-                    let x = own % RUNS;
+                    let x = own % limits::RUNS;
                     let run = runs.rows[x];
                     let mut other: usize = 0;
-                    while other < RUNS {
+                    while other < limits::RUNS {
                         let row = runs.rows[other];
-                        if seeks::other(event, body, row) {
+                        if dispatch::is_other_run(event, body, row) {
                             break;
                         }
                         other += 1;
                     }
                     let mut filed: usize = 0;
-                    while filed < SESSIONS {
+                    while filed < limits::SESSIONS {
                         let row = sessions.rows[filed];
-                        if seeks::session(event, body, run, row) {
+                        if dispatch::is_its_session(event, body, run, row) {
                             break;
                         }
                         filed += 1;
                     }
                     let mut free: usize = 0;
-                    while free < SESSIONS {
+                    while free < limits::SESSIONS {
                         let row = sessions.rows[free];
-                        if seeks::place(event, row) {
+                        if dispatch::is_its_place(event, row) {
                             break;
                         }
                         free += 1;
                     }
-                    let goes = sought::or_else(filed, free, SESSIONS);
-                    let y = goes % SESSIONS;
+                    let goes = flow::or_else(filed, free, limits::SESSIONS);
+                    let y = goes % limits::SESSIONS;
                     let session = sessions.rows[y];
                     let seen = Seen {
                         ready,
@@ -174,7 +157,7 @@ pub fn serve(
                         run,
                         session,
                     };
-                    let turn = turns::take(seen, event, body, &mut buffer);
+                    let turn = dispatch::take(seen, event, body, &mut buffer);
                     reply = turn.reply;
                     clock = turn.clock;
                     last = turn.last;

@@ -76,7 +76,7 @@ pub extern "C" fn pr_event<'s, 'a, 'b>(
 ) -> Reply
     ensures { λ r. ⌜ EventMet (now (state .entry)) (eventOf (now (state .entry)) (now (rows .entry)) (now (body .entry)) (length (now (out .entry)))) (now (out .entry)) (outcome (now (state .exit)) r) (now (out .exit)) ⌝ }
 {
-    let outcome = entry::event(*state, rows, body, out);
+    let outcome = server::event(*state, rows, body, out);
     *state = outcome.state;
     outcome.reply
 }

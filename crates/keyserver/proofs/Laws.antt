@@ -8,8 +8,8 @@ use mathlib.Core.List.{List, [], _∷_, _++_}
 use lib.ListN.{length, take, drop, getD, set, length-set, length-drop}
 use lib.Seq.{take-suc, take-suc-set, drop-set-lt, drop-drop, getD-drop}
 use Rattle.flow.specs.Front.{Wrote}
-use Rattle.printed.specs.Printed.{lineOf}
-use Rattle.printed.proofs.Laws.{line-long}
+use Rattle.program.specs.Printed.{lineOf}
+use Rattle.program.proofs.Lines.{line-long}
 
 -- i octets have been moved, and those from i on are as they were
 pub record Moved (old : List ℕ) (from i : ℕ) (new : List ℕ) : Type 0 where

@@ -1,23 +1,16 @@
 // The event program: document 01, "The event program". It reads an opening part and events from standard input, and prints a line for each event
-// as soon as the event has arrived. What is read, answered and printed is said in the crates feed and batch; here is the input and output.
+// as soon as the event has arrived. What is read, answered and printed is said in the crates program and batch; here is the input and output.
 use batch::Why;
-use feed::Opening;
+use program::OpeningPart;
 use shelves::Shelf;
 use tables::State;
 ghost use mathlib.Core.Path.{_≡_};
 ghost use Prim.Native.Nat.{_-_, _≤_};
 ghost use lib.ListN.{length, take, drop};
 
-// The octets of the input and of the output that are held. The longest opening part has 2,282, the longest event with its length 514, the
-// longest line 364.
+// The octets of the input and of the output that are held: more than the longest opening part, the longest event with its length, and the longest
+// line have.
 const SIZE: usize = 65536;
-
-const LINE: usize = 364;
-
-// Refusals: 1 NOT OPEN, 3 FORM.
-const NOT_OPEN: u32 = 1;
-
-const FORM: u32 = 3;
 
 // More events than any run of the program has.
 const EVENTS: u64 = 9223372036854775808;
@@ -48,7 +41,7 @@ fn shift(input: &mut [u8], from: usize, held: usize) -> usize
 
 // Whether the input so far is the front of an opening part.
 fn is_cut(input: &[u8]) -> bool {
-    if let Opening::More = feed::read_opening(input) {
+    if let OpeningPart::More = program::read_opening(input) {
         true
     } else {
         false
@@ -72,8 +65,8 @@ fn begin(input: &mut [u8]) -> usize
 
 // Prints a line with no answer.
 fn print_refused(place: u64, number: u32) {
-    let mut line = [0u8; LINE];
-    let len = printed::put_line(&mut line, place, number, &[]);
+    let mut line = [0u8; limits::LINE];
+    let len = program::put_line(&mut line, place, number, &[]);
     io::write_all(libc::STDOUT_FILENO, &line[..len]);
 }
 
@@ -86,7 +79,7 @@ fn read_on(input: &mut [u8], from: usize, held: usize, place: u64) -> usize
     let more = fill(input, rest);
     if more == rest {
         if 0 < rest {
-            print_refused(place, FORM);
+            print_refused(place, flow::FORM);
         }
         return 0;
     }
@@ -134,7 +127,7 @@ fn main() {
     let mut input = [0u8; SIZE];
     let mut out = [0u8; SIZE];
     let held = begin(&mut input);
-    let Opening::Whole {
+    let OpeningPart::Whole {
         domain,
         domain_end,
         restart,
@@ -142,12 +135,12 @@ fn main() {
         rows,
         at,
         end,
-    } = feed::read_opening(&input[..held])
+    } = program::read_opening(&input[..held])
     else {
-        print_refused(0, NOT_OPEN);
+        print_refused(0, flow::NOT_OPEN);
         return;
     };
-    let shelf = feed::shelf_of(&input[..held], rows, at);
+    let shelf = program::shelf_of(&input[..held], rows, at);
     let opened = opening::open(shelves::part(&input, domain, domain_end), restart, lifetime);
     if opened.no != 0 {
         print_refused(0, opened.no);

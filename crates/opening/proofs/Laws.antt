@@ -20,6 +20,16 @@ opening-made s t o e p = ap (λ (x : State). record { no = 0; state = x }) e ∙
 
 -- the closed state, with what the opening brings
 pub opened-fresh : (s : State) (name : Name) (domain : List ℕ) (restart lifetime : ℕ) → s ≡ closed → name ≡ nameOf domain
-    → record { ready = true; domain = name; restart = restart; lifetime = record { 0 = lifetime }; clock = s .clock; last = s .last; runs = s .runs; sessions = s .sessions } ≡ fresh domain restart lifetime
+    → record {
+      ready = true;
+      domain = name;
+      restart = restart;
+      lifetime = record { 0 = lifetime };
+      clock = s .clock;
+      last = s .last;
+      runs = s .runs;
+      sessions = s .sessions;
+    }
+    ≡ fresh domain restart lifetime
 unfolding fresh closed
 opened-fresh s name domain restart lifetime e p = rw (e, p)

@@ -1,4 +1,4 @@
-// The opening: document 01, "Opening, clock, tables". Values out of range return number 1 and the closed state.
+// The opening: document 01, "Opening, clock, tables". Values out of range are NOT OPEN, and hand back the closed state.
 use names::Name;
 use records::Lifetime;
 use records::Moment;
@@ -8,17 +8,17 @@ use tables::Runs;
 use tables::Sessions;
 use tables::State;
 ghost use mathlib.Core.Path.{_≡_};
-ghost use Rattle.rules.specs.Opening.{closed, fresh, openRule};
+ghost use Rattle.rules.specs.Opening.{closed, openRule};
 ghost use Rattle.opening.specs.Opening.{openingOf};
 
-// What an opening hands back: 0 and the state, or 1 and the closed state.
+// What an opening hands back: 0 and the state, or the refusal and the closed state.
 #[repr(C)]
 pub struct Opening {
     pub no: u32,
     pub state: State,
 }
 
-// The state on which every event is refused with 1.
+// The state on which every event is NOT OPEN.
 pub fn closed() -> State
     ensures { λ r. ⌜ r ≡ closed ⌝ }
 {
@@ -32,9 +32,11 @@ pub fn closed() -> State
         lifetime: Lifetime(0),
         clock: Moment(0),
         last: 0,
-        runs: Runs { rows: [run; 32] },
+        runs: Runs {
+            rows: [run; limits::RUNS],
+        },
         sessions: Sessions {
-            rows: [session; 64],
+            rows: [session; limits::SESSIONS],
         },
     }
 }
@@ -45,31 +47,31 @@ pub fn open(domain: &[u8], restart: u64, lifetime: u64) -> Opening
     let mut state = closed();
     if domain.len() == 0 {
         return Opening {
-            no: 1,
+            no: flow::NOT_OPEN,
             state: state,
         };
     }
-    if 64 < domain.len() {
+    if limits::NAME < domain.len() {
         return Opening {
-            no: 1,
+            no: flow::NOT_OPEN,
             state: state,
         };
     }
-    if line::WORD < restart {
+    if limits::WORD < restart {
         return Opening {
-            no: 1,
+            no: flow::NOT_OPEN,
             state: state,
         };
     }
-    if lifetime < line::LIFETIME_LEAST {
+    if lifetime < limits::LIFETIME_LEAST {
         return Opening {
-            no: 1,
+            no: flow::NOT_OPEN,
             state: state,
         };
     }
-    if line::LIFETIME_MOST < lifetime {
+    if limits::LIFETIME_MOST < lifetime {
         return Opening {
-            no: 1,
+            no: flow::NOT_OPEN,
             state: state,
         };
     }

@@ -1,47 +1,48 @@
 // One event on a state: the two checks in front of every event, and then the rule of its kind. Document 01, "What goes back".
 use flow::Reply;
 use outcome::Outcome;
+use outcome::Seen;
 use shelves::Asked;
 use shelves::Policy;
+use shelves::Row;
 use tables::State;
-use turn::Seen;
-ghost use mathlib.Core.Path.{_≡_};
 ghost use lib.ListN.{length};
+ghost use Rattle.event.specs.Table.{decoded};
 ghost use Rattle.outcome.specs.Outcome.{Met};
-ghost use Rattle.rules.specs.Server.{askedOf, stepOf};
-
-// The rows of the two tables.
-const RUNS: usize = 32;
-
-const SESSIONS: usize = 64;
-
-// A shorter buffer is refused with 2.
-const ROOM: usize = 160;
+ghost use Rattle.dispatch.specs.Turns.{AsksShelf};
+ghost use Rattle.rules.specs.Server.{stepOf};
+ghost use Rattle.rules.specs.History.{eventOf};
 
 // Where a KEY names its peer and its FQDN, for the shelf table; any other event asks for nothing there.
 pub fn asked(body: &[u8]) -> Asked
-    ensures { λ r. ⌜ r ≡ askedOf (now (body .entry)) ⌝ }
+    ensures { λ r. ⌜ AsksShelf (now (body .entry)) r ⌝ }
 {
     let event = event::decode(body);
-    let ask = turns::asked_by(true, event);
+    let ask = dispatch::asked_by(true, event);
     ask.shelf
 }
 
 // What an event does, where the shelf table has said what it says to a KEY. The rows are searched here, in the tables that were handed in.
 pub fn step(state: State, policy: Policy, body: &[u8], out: &mut [u8]) -> Outcome
-    ensures { λ r. ⌜ Met state (stepOf state policy (now (body .entry)) (length (now (out .entry)))) (now (out .entry)) r (now (out .exit)) ⌝ }
+    ensures { λ r. ⌜ Met state (stepOf state policy (decoded (now (body .entry))) (length (now (out .entry)))) (now (out .entry)) r (now (out .exit)) ⌝ }
 {
     let ready = state.ready;
     if ready {} else {
         return Outcome {
             state: state,
-            reply: Reply { no: 1, len: 0 },
+            reply: Reply {
+                no: flow::NOT_OPEN,
+                len: 0,
+            },
         };
     }
-    if out.len() < ROOM {
+    if out.len() < limits::ROOM {
         return Outcome {
             state: state,
-            reply: Reply { no: 2, len: 0 },
+            reply: Reply {
+                no: flow::SHORT,
+                len: 0,
+            },
         };
     }
     let runs = state.runs;
@@ -49,60 +50,60 @@ pub fn step(state: State, policy: Policy, body: &[u8], out: &mut [u8]) -> Outcom
     let domain = state.domain;
     let lifetime = state.lifetime;
     let event = event::decode(body);
-    let ask = turns::asked_by(ready, event);
+    let ask = dispatch::asked_by(ready, event);
     let key = ask.key;
     if key {
-        let mut j: usize = 0;
-        while j < SESSIONS {
+        let mut j = dispatch::search_from(policy);
+        while j < limits::SESSIONS {
             let row = sessions.rows[j];
-            if turns::is_named(ask, body, domain, row) {
+            if dispatch::is_named(ask, body, domain, row) {
                 break;
             }
             j += 1;
         }
-        let session = sessions.rows[j % SESSIONS];
-        let told = turns::key(ask, body, state.clock.0, policy, j, session, out);
+        let session = sessions.rows[j % limits::SESSIONS];
+        let told = dispatch::key(ask, body, state.clock.0, policy, j, session, out);
         return Outcome {
             state: state,
             reply: told,
         };
     }
     let mut own: usize = 0;
-    while own < RUNS {
+    while own < limits::RUNS {
         let row = runs.rows[own];
-        if seeks::run(event, row) {
+        if dispatch::is_its_run(event, row) {
             break;
         }
         own += 1;
     }
-    let x = own % RUNS;
+    let x = own % limits::RUNS;
     let run = runs.rows[x];
     let mut other: usize = 0;
-    while other < RUNS {
+    while other < limits::RUNS {
         let row = runs.rows[other];
-        if seeks::other(event, body, row) {
+        if dispatch::is_other_run(event, body, row) {
             break;
         }
         other += 1;
     }
     let mut filed: usize = 0;
-    while filed < SESSIONS {
+    while filed < limits::SESSIONS {
         let row = sessions.rows[filed];
-        if seeks::session(event, body, run, row) {
+        if dispatch::is_its_session(event, body, run, row) {
             break;
         }
         filed += 1;
     }
     let mut free: usize = 0;
-    while free < SESSIONS {
+    while free < limits::SESSIONS {
         let row = sessions.rows[free];
-        if seeks::place(event, row) {
+        if dispatch::is_its_place(event, row) {
             break;
         }
         free += 1;
     }
-    let goes = sought::or_else(filed, free, SESSIONS);
-    let y = goes % SESSIONS;
+    let goes = flow::or_else(filed, free, limits::SESSIONS);
+    let y = goes % limits::SESSIONS;
     let session = sessions.rows[y];
     let seen = Seen {
         ready: ready,
@@ -118,7 +119,7 @@ pub fn step(state: State, policy: Policy, body: &[u8], out: &mut [u8]) -> Outcom
         run: run,
         session: session,
     };
-    let turn = turns::take(seen, event, body, out);
+    let turn = dispatch::take(seen, event, body, out);
     let told = turn.reply;
     let run = turn.run;
     let session = turn.session;
@@ -127,4 +128,15 @@ pub fn step(state: State, policy: Policy, body: &[u8], out: &mut [u8]) -> Outcom
         state: next,
         reply: told,
     }
+}
+
+// ---- The entry: one event on a state, with the shelf table lent as rows. Document 01, "Events and numbers on the line" to "What goes back".
+
+// The row that counts for a KEY is looked up, and the server answers by what it says.
+pub fn event<'a, 'b>(state: State, rows: &'a [Row], body: &'a [u8], out: &'b mut [u8]) -> Outcome
+    ensures { λ r. ⌜ Met state (eventOf state (now (rows .entry)) (now (body .entry)) (length (now (out .entry)))) (now (out .entry)) r (now (out .exit)) ⌝ }
+{
+    let asked = asked(body);
+    let policy = shelves::lookup(rows, body, asked);
+    step(state, policy, body, out)
 }

@@ -1,7 +1,7 @@
 -- The line is written at the front of the lent end.
 use mathlib.Core.List.{[]}
 use Rattle.flow.proofs.Fronts.{end-put}
-use Rattle.printed.proofs.Laws.{line-long}
+use Rattle.program.proofs.Lines.{line-long}
 use native.Mathlib.Omega.{arith}
 use borrow.Author.Needs.{needs}
 use Rattle.batch.proofs.put_bad.Statement.{statement}

@@ -1,29 +1,31 @@
 -- The invariant: the events passed were answered one after another, their lines stand at the front, and the locals are the state that they left.
 -- Each search ends at the first row that passes, or past the last; what follows is one law for a KEY, and one for all other events.
 use Prim.Native.Nat.{ℕ, _≤_, _-_}
-use mathlib.Core.Path.{_≡_, refl, sym, ap, _∙_}
+use mathlib.Core.Path.{_≡_, refl, sym, ap, subst, _∙_}
 use mathlib.Core.Logic.{⊎-elim}
+use mathlib.Core.Bool.{true}
 use mathlib.Core.List.{List}
-use lib.ListN.{length, take, drop, replicate}
-use Rattle.flow.specs.Search.{firstFrom}
-use Rattle.flow.proofs.Searches.{first-next, getD-any}
+use lib.ListN.{length, take, replicate}
+use Rattle.limits.specs.Limits.{RUNS, SESSIONS, ROWS, ROOM}
+use Rattle.flow.specs.Ends.{Ends}
+use Rattle.flow.proofs.Searches.{getD-any}
 use Rattle.octets.proofs.Laws.{least-below}
-use Rattle.names.specs.Name.{octetsOf}
+use Rattle.names.specs.Name.{nameOctets}
 use Rattle.line.specs.Text.{between}
 use Rattle.records.specs.Rows.{noRun, noSession}
-use Rattle.feed.proofs.Laws.{framed}
+use Rattle.program.proofs.Laws.{framed}
+use Rattle.tables.specs.Tables.{runIn, putRun, sessionIn, putSession, isNamed, firstSession, namedOf}
 use Rattle.tables.proofs.Laws.{state-runs-long, state-sessions-long}
 use Rattle.tables.specs.declared.State.{State}
-use Rattle.rules.specs.Key.{isNamed}
-use Rattle.sought.proofs.Laws.{ends-past, ends-here, ends-or, or-here, row-here}
-use Rattle.seeks.specs.Seeks.{seeksRun, seeksOther, seeksSession, seeksPlace}
+use Rattle.flow.proofs.Ends.{Scanned, scan-start, scan-next, ends-past, ends-here, ends-or, or-here, row-here}
+use Rattle.dispatch.specs.Seeks.{seeksRun, seeksOther, seeksSession, seeksPlace}
 use Rattle.shelves.specs.Shelf.{peerIn, fqdnIn}
 use Rattle.shelves.specs.declared.Asked.{Asked}
 use Rattle.shelves.specs.declared.Policy.{Policy}
 use Rattle.shelves.specs.declared.Shelf.{Shelf}
 use Rattle.shelves.proofs.Laws.{policyFrom, shelf-long, front-count, front-next}
-use Rattle.turns.specs.declared.Ask.{Ask}
-use Rattle.turns.proofs.Laws.{in-body, asks-inside}
+use Rattle.dispatch.specs.declared.Ask.{Ask}
+use Rattle.dispatch.proofs.Keys.{key-asked, start-most, start-scanned}
 use Rattle.batch.proofs.Laws.{packed, policy-none, policy-row, Stepped, stepped-key, stepped-turn, stepped-as, reply-within, Running, running-none, running-more, served-more, served-full, served-bad}
 use native.Mathlib.Omega.{arith}
 use borrow.Author.Needs.{needs}
@@ -35,45 +37,50 @@ abbrev said : Shelf → List ℕ → Asked → ℕ → Policy
 said shelf body asked r = policyFrom (take (shelf .count) (shelf .rows)) (peerIn body asked) (fqdnIn body asked) r
 
 abbrev Inv-loop2 : tie.InvT-loop2
-Inv-loop2 input from first out shelf ready domain restart lifetime clock last runs sessions at place len start end body buffer ask key asked count r₀ r = (r ≤ count) × (count ≤ 16) × (length (take (shelf .count) (shelf .rows)) ≡ count) × (said shelf body asked 0 ≡ said shelf body asked r)
+Inv-loop2 input from first out shelf ready domain restart lifetime clock last runs sessions at place len start end body buffer ask key asked count r₀ r = (r ≤ count) × (count ≤ ROWS) × (length (take (shelf .count) (shelf .rows)) ≡ count) × (said shelf body asked 0 ≡ said shelf body asked r)
 
 abbrev μ-loop2 : tie.MeasureT-loop2
 μ-loop2 input from first out shelf ready domain restart lifetime clock last runs sessions at place len start end body buffer ask key asked count r₀ r = count - r
 
 abbrev Inv-loop3 : tie.InvT-loop3
-Inv-loop3 input from first out shelf ready domain restart lifetime clock last runs sessions at place len start end body buffer ask key count r policy j₀ j = (j ≤ 64) × (firstFrom (isNamed (between body (ask .btid) (ask .btidend)) (octetsOf domain) (ask .time)) 0 (sessions .rows) ≡ firstFrom (isNamed (between body (ask .btid) (ask .btidend)) (octetsOf domain) (ask .time)) j (drop j (sessions .rows)))
+Inv-loop3 input from first out shelf ready domain restart lifetime clock last runs sessions at place len start end body buffer ask key count r policy j₀ j =
+    (j ≤ SESSIONS) × (policy .found ≡ true → Scanned (isNamed (between body (ask .btid) (ask .btidend)) (nameOctets domain) (ask .time)) (sessions .rows) SESSIONS j)
 
 abbrev μ-loop3 : tie.MeasureT-loop3
-μ-loop3 input from first out shelf ready domain restart lifetime clock last runs sessions at place len start end body buffer ask key count r policy j₀ j = 64 - j
+μ-loop3 input from first out shelf ready domain restart lifetime clock last runs sessions at place len start end body buffer ask key count r policy j₀ j = SESSIONS - j
 
 abbrev Inv-loop4 : tie.InvT-loop4
-Inv-loop4 input from first out shelf ready domain restart lifetime clock last runs sessions at place len start end body buffer event key own₀ own = (own ≤ 32) × (firstFrom (seeksRun event) 0 (runs .rows) ≡ firstFrom (seeksRun event) own (drop own (runs .rows)))
+Inv-loop4 input from first out shelf ready domain restart lifetime clock last runs sessions at place len start end body buffer event key own₀ own =
+    Scanned (seeksRun event) (runs .rows) RUNS own
 
 abbrev μ-loop4 : tie.MeasureT-loop4
-μ-loop4 input from first out shelf ready domain restart lifetime clock last runs sessions at place len start end body buffer event key own₀ own = 32 - own
+μ-loop4 input from first out shelf ready domain restart lifetime clock last runs sessions at place len start end body buffer event key own₀ own = RUNS - own
 
 abbrev Inv-loop5 : tie.InvT-loop5
-Inv-loop5 input from first out shelf ready domain restart lifetime clock last runs sessions at place len start end body buffer event key own x run other₀ other = (other ≤ 32) × (firstFrom (seeksOther body event) 0 (runs .rows) ≡ firstFrom (seeksOther body event) other (drop other (runs .rows)))
+Inv-loop5 input from first out shelf ready domain restart lifetime clock last runs sessions at place len start end body buffer event key own x run other₀ other =
+    Scanned (seeksOther body event) (runs .rows) RUNS other
 
 abbrev μ-loop5 : tie.MeasureT-loop5
-μ-loop5 input from first out shelf ready domain restart lifetime clock last runs sessions at place len start end body buffer event key own x run other₀ other = 32 - other
+μ-loop5 input from first out shelf ready domain restart lifetime clock last runs sessions at place len start end body buffer event key own x run other₀ other = RUNS - other
 
 abbrev Inv-loop6 : tie.InvT-loop6
-Inv-loop6 input from first out shelf ready domain restart lifetime clock last runs sessions at place len start end body buffer event key own x run other filed₀ filed = (filed ≤ 64) × (firstFrom (seeksSession body run event) 0 (sessions .rows) ≡ firstFrom (seeksSession body run event) filed (drop filed (sessions .rows)))
+Inv-loop6 input from first out shelf ready domain restart lifetime clock last runs sessions at place len start end body buffer event key own x run other filed₀ filed =
+    Scanned (seeksSession body run event) (sessions .rows) SESSIONS filed
 
 abbrev μ-loop6 : tie.MeasureT-loop6
-μ-loop6 input from first out shelf ready domain restart lifetime clock last runs sessions at place len start end body buffer event key own x run other filed₀ filed = 64 - filed
+μ-loop6 input from first out shelf ready domain restart lifetime clock last runs sessions at place len start end body buffer event key own x run other filed₀ filed = SESSIONS - filed
 
 abbrev Inv-loop7 : tie.InvT-loop7
-Inv-loop7 input from first out shelf ready domain restart lifetime clock last runs sessions at place len start end body buffer event key own x run other filed free₀ free = (free ≤ 64) × (firstFrom (seeksPlace event) 0 (sessions .rows) ≡ firstFrom (seeksPlace event) free (drop free (sessions .rows)))
+Inv-loop7 input from first out shelf ready domain restart lifetime clock last runs sessions at place len start end body buffer event key own x run other filed free₀ free =
+    Scanned (seeksPlace event) (sessions .rows) SESSIONS free
 
 abbrev μ-loop7 : tie.MeasureT-loop7
-μ-loop7 input from first out shelf ready domain restart lifetime clock last runs sessions at place len start end body buffer event key own x run other filed free₀ free = 64 - free
+μ-loop7 input from first out shelf ready domain restart lifetime clock last runs sessions at place len start end body buffer event key own x run other filed free₀ free = SESSIONS - free
 
 abbrev Inv-loop : tie.InvT-loop
 Inv-loop input from first out₀ shelf ready domain restart lifetime clock₀ last₀ runs₀ sessions₀ at₀ place₀ len₀ out clock last runs sessions at place len =
     Running shelf input (packed ready domain restart lifetime clock₀ last₀ runs₀ sessions₀) from first out₀ (packed ready domain restart lifetime clock last runs sessions) at place len out
-    × (length (runs .rows) ≡ 32) × (length (sessions .rows) ≡ 64)
+    × (length (runs .rows) ≡ RUNS) × (length (sessions .rows) ≡ SESSIONS)
 
 abbrev μ-loop : tie.MeasureT-loop
 μ-loop input from first out₀ shelf ready domain restart lifetime clock₀ last₀ runs₀ sessions₀ at₀ place₀ len₀ out clock last runs sessions at place len = length input - at
@@ -112,7 +119,7 @@ loop2-holds : tie.Need-loop2-holds Inv-loop2 μ-loop2 Inv-loop3 μ-loop3 Inv-loo
 loop2-holds c =
     let z = c .before .before .before .before .before .before .before .before .before .before .before .before .before .before .before .before .before .before in
     let s = z .args .t2 in
-    (omega arith, omega (arith, c .least .ensures, least-below (s .count) 16), front-count (s .rows) (s .count) 16 (c .least .result) (shelf-long s _ (z .good .1 .0)) (c .least .ensures), refl)
+    (omega arith, omega (arith, c .least .ensures, least-below (s .count) ROWS), front-count (s .rows) (s .count) ROWS (c .least .result) (shelf-long s _ (z .good .1 .0)) (c .least .ensures), refl)
 
 mul-row : tie.Need-mul-row Inv-loop2 μ-loop2 Inv-loop3 μ-loop3 Inv-loop4 μ-loop4 Inv-loop5 μ-loop5 Inv-loop6 μ-loop6 Inv-loop7 μ-loop7 Inv-loop μ-loop
 mul-row c = omega (arith, c .before .loop2 .inv .1)
@@ -145,8 +152,11 @@ element-copy-out-listed c = search needs
 policy-of-requires : tie.Need-policy-of-requires Inv-loop2 μ-loop2 Inv-loop3 μ-loop3 Inv-loop4 μ-loop4 Inv-loop5 μ-loop5 Inv-loop6 μ-loop6 Inv-loop7 μ-loop7 Inv-loop μ-loop
 policy-of-requires c κs = search needs
 
+search-from-requires : tie.Need-search-from-requires Inv-loop2 μ-loop2 Inv-loop3 μ-loop3 Inv-loop4 μ-loop4 Inv-loop5 μ-loop5 Inv-loop6 μ-loop6 Inv-loop7 μ-loop7 Inv-loop μ-loop
+search-from-requires c κs = search needs
+
 loop3-holds : tie.Need-loop3-holds Inv-loop2 μ-loop2 Inv-loop3 μ-loop3 Inv-loop4 μ-loop4 Inv-loop5 μ-loop5 Inv-loop6 μ-loop6 Inv-loop7 μ-loop7 Inv-loop μ-loop
-loop3-holds c = (omega arith, refl)
+loop3-holds c = (start-most _ _ (c .search-from .ensures), λ f. start-scanned _ _ _ _ (c .search-from .ensures) f)
 
 mul-row-2 : tie.Need-mul-row-2 Inv-loop2 μ-loop2 Inv-loop3 μ-loop3 Inv-loop4 μ-loop4 Inv-loop5 μ-loop5 Inv-loop6 μ-loop6 Inv-loop7 μ-loop7 Inv-loop μ-loop
 mul-row-2 c = search needs
@@ -155,7 +165,7 @@ element-copy-out-row-2 : tie.Need-element-copy-out-row-2 Inv-loop2 μ-loop2 Inv-
 element-copy-out-row-2 c = search needs
 
 is-named-requires : tie.Need-is-named-requires Inv-loop2 μ-loop2 Inv-loop3 μ-loop3 Inv-loop4 μ-loop4 Inv-loop5 μ-loop5 Inv-loop6 μ-loop6 Inv-loop7 μ-loop7 Inv-loop μ-loop
-is-named-requires c κs = asks-inside (c .before .before .before .before .before .before .before .before .before .before .before .before .before .before .before .before .before .before .before .before .before .before .before .before .before .args .state) _ _ _ (c .before .before .before .before .before .before .before .before .before .before .before .decode .ensures) (c .before .before .before .before .before .before .before .before .before .before .asked-by .ensures) (c .before .before .before .before .before .before .before .before .before .if1 .taken)
+is-named-requires c κs = let t = c .before .before .before .before .before .before .before .before .before .before in key-asked _ _ _ _ (t .before .before .decode .ensures .placed) (t .before .asked-by .ensures) (t .if1 .taken) .asks
 
 add-j : tie.Need-add-j Inv-loop2 μ-loop2 Inv-loop3 μ-loop3 Inv-loop4 μ-loop4 Inv-loop5 μ-loop5 Inv-loop6 μ-loop6 Inv-loop7 μ-loop7 Inv-loop μ-loop
 add-j c = search needs
@@ -166,8 +176,8 @@ loop3-less c = omega arith
 loop3-again : tie.Need-loop3-again Inv-loop2 μ-loop2 Inv-loop3 μ-loop3 Inv-loop4 μ-loop4 Inv-loop5 μ-loop5 Inv-loop6 μ-loop6 Inv-loop7 μ-loop7 Inv-loop μ-loop
 loop3-again c =
     let k = c .before .before .before .before .loop3 in
-    let l = c .before .before .before .before .before .before .before .before .before .before .before .before .before .before .before .before .before .before .before .before .loop in
-    (omega arith, k .inv .1 ∙ first-next _ (l .sessions .rows) (k .j) _ (omega (arith, l .inv .2)) (sym (c .before .is-named .ensures) ∙ c .if3 .left))
+    let l = c .before .before .before .before .before .before .before .before .before .before .before .before .before .before .before .before .before .before .before .before .before .loop in
+    (omega arith, λ f. scan-next _ (l .sessions .rows) SESSIONS (k .j) (l .inv .2) (k .inv .1 f) _ (omega arith) (sym (c .before .is-named .ensures) ∙ c .if3 .left))
 
 mul-session : tie.Need-mul-session Inv-loop2 μ-loop2 Inv-loop3 μ-loop3 Inv-loop4 μ-loop4 Inv-loop5 μ-loop5 Inv-loop6 μ-loop6 Inv-loop7 μ-loop7 Inv-loop μ-loop
 mul-session c = search needs
@@ -179,10 +189,10 @@ slice-aggregate-key : tie.Need-slice-aggregate-key Inv-loop2 μ-loop2 Inv-loop3 
 slice-aggregate-key c = search needs
 
 key-requires : tie.Need-key-requires Inv-loop2 μ-loop2 Inv-loop3 μ-loop3 Inv-loop4 μ-loop4 Inv-loop5 μ-loop5 Inv-loop6 μ-loop6 Inv-loop7 μ-loop7 Inv-loop μ-loop
-key-requires c κs = (asks-inside (c .before .before .before .before .before .before .before .before .before .before .before .before .before .before .before .before .before .before .before .before .before .before .before .before .before .before .args .state) _ _ _ (c .before .before .before .before .before .before .before .before .before .before .before .before .decode .ensures) (c .before .before .before .before .before .before .before .before .before .before .before .asked-by .ensures) (c .before .before .before .before .before .before .before .before .before .before .if1 .taken), omega arith)
+key-requires c κs = let t = c .before .before .before .before .before .before .before .before .before .before .before in (key-asked _ _ _ _ (t .before .before .decode .ensures .placed) (t .before .asked-by .ensures) (t .if1 .taken) .asks, omega arith)
 
 loop4-holds : tie.Need-loop4-holds Inv-loop2 μ-loop2 Inv-loop3 μ-loop3 Inv-loop4 μ-loop4 Inv-loop5 μ-loop5 Inv-loop6 μ-loop6 Inv-loop7 μ-loop7 Inv-loop μ-loop
-loop4-holds c = (omega arith, refl)
+loop4-holds c = scan-start _ _ _
 
 mul-row-3 : tie.Need-mul-row-3 Inv-loop2 μ-loop2 Inv-loop3 μ-loop3 Inv-loop4 μ-loop4 Inv-loop5 μ-loop5 Inv-loop6 μ-loop6 Inv-loop7 μ-loop7 Inv-loop μ-loop
 mul-row-3 c = search needs
@@ -190,8 +200,8 @@ mul-row-3 c = search needs
 element-copy-out-row-3 : tie.Need-element-copy-out-row-3 Inv-loop2 μ-loop2 Inv-loop3 μ-loop3 Inv-loop4 μ-loop4 Inv-loop5 μ-loop5 Inv-loop6 μ-loop6 Inv-loop7 μ-loop7 Inv-loop μ-loop
 element-copy-out-row-3 c = search needs
 
-run-requires : tie.Need-run-requires Inv-loop2 μ-loop2 Inv-loop3 μ-loop3 Inv-loop4 μ-loop4 Inv-loop5 μ-loop5 Inv-loop6 μ-loop6 Inv-loop7 μ-loop7 Inv-loop μ-loop
-run-requires c κs = search needs
+is-its-run-requires : tie.Need-is-its-run-requires Inv-loop2 μ-loop2 Inv-loop3 μ-loop3 Inv-loop4 μ-loop4 Inv-loop5 μ-loop5 Inv-loop6 μ-loop6 Inv-loop7 μ-loop7 Inv-loop μ-loop
+is-its-run-requires c κs = search needs
 
 add-own : tie.Need-add-own Inv-loop2 μ-loop2 Inv-loop3 μ-loop3 Inv-loop4 μ-loop4 Inv-loop5 μ-loop5 Inv-loop6 μ-loop6 Inv-loop7 μ-loop7 Inv-loop μ-loop
 add-own c = search needs
@@ -203,7 +213,7 @@ loop4-again : tie.Need-loop4-again Inv-loop2 μ-loop2 Inv-loop3 μ-loop3 Inv-loo
 loop4-again c =
     let k = c .before .before .before .before .loop4 in
     let l = c .before .before .before .before .before .before .before .before .before .before .before .before .before .before .loop in
-    (omega arith, k .inv .1 ∙ first-next _ (l .runs .rows) (k .own) _ (omega (arith, l .inv .1)) (sym (c .before .run .ensures) ∙ c .if4 .left))
+    scan-next _ (l .runs .rows) RUNS (k .own) (l .inv .1) (k .inv) _ (omega arith) (sym (c .before .is-its-run .ensures) ∙ c .if4 .left)
 
 mul-run : tie.Need-mul-run Inv-loop2 μ-loop2 Inv-loop3 μ-loop3 Inv-loop4 μ-loop4 Inv-loop5 μ-loop5 Inv-loop6 μ-loop6 Inv-loop7 μ-loop7 Inv-loop μ-loop
 mul-run c = search needs
@@ -212,7 +222,7 @@ element-copy-out-run : tie.Need-element-copy-out-run Inv-loop2 μ-loop2 Inv-loop
 element-copy-out-run c = search needs
 
 loop5-holds : tie.Need-loop5-holds Inv-loop2 μ-loop2 Inv-loop3 μ-loop3 Inv-loop4 μ-loop4 Inv-loop5 μ-loop5 Inv-loop6 μ-loop6 Inv-loop7 μ-loop7 Inv-loop μ-loop
-loop5-holds c = (omega arith, refl)
+loop5-holds c = scan-start _ _ _
 
 mul-row-4 : tie.Need-mul-row-4 Inv-loop2 μ-loop2 Inv-loop3 μ-loop3 Inv-loop4 μ-loop4 Inv-loop5 μ-loop5 Inv-loop6 μ-loop6 Inv-loop7 μ-loop7 Inv-loop μ-loop
 mul-row-4 c = search needs
@@ -220,8 +230,8 @@ mul-row-4 c = search needs
 element-copy-out-row-4 : tie.Need-element-copy-out-row-4 Inv-loop2 μ-loop2 Inv-loop3 μ-loop3 Inv-loop4 μ-loop4 Inv-loop5 μ-loop5 Inv-loop6 μ-loop6 Inv-loop7 μ-loop7 Inv-loop μ-loop
 element-copy-out-row-4 c = search needs
 
-other-requires : tie.Need-other-requires Inv-loop2 μ-loop2 Inv-loop3 μ-loop3 Inv-loop4 μ-loop4 Inv-loop5 μ-loop5 Inv-loop6 μ-loop6 Inv-loop7 μ-loop7 Inv-loop μ-loop
-other-requires c κs = in-body _ _ _ (c .before .before .before .before .before .before .before .before .decode .ensures) refl
+is-other-run-requires : tie.Need-is-other-run-requires Inv-loop2 μ-loop2 Inv-loop3 μ-loop3 Inv-loop4 μ-loop4 Inv-loop5 μ-loop5 Inv-loop6 μ-loop6 Inv-loop7 μ-loop7 Inv-loop μ-loop
+is-other-run-requires c κs = c .before .before .before .before .before .before .before .before .decode .ensures .placed
 
 add-other : tie.Need-add-other Inv-loop2 μ-loop2 Inv-loop3 μ-loop3 Inv-loop4 μ-loop4 Inv-loop5 μ-loop5 Inv-loop6 μ-loop6 Inv-loop7 μ-loop7 Inv-loop μ-loop
 add-other c = search needs
@@ -233,10 +243,10 @@ loop5-again : tie.Need-loop5-again Inv-loop2 μ-loop2 Inv-loop3 μ-loop3 Inv-loo
 loop5-again c =
     let k = c .before .before .before .before .loop5 in
     let l = c .before .before .before .before .before .before .before .before .before .before .before .before .before .before .before .before .before .loop in
-    (omega arith, k .inv .1 ∙ first-next _ (l .runs .rows) (k .other) _ (omega (arith, l .inv .1)) (sym (c .before .other .ensures) ∙ c .if5 .left))
+    scan-next _ (l .runs .rows) RUNS (k .other) (l .inv .1) (k .inv) _ (omega arith) (sym (c .before .is-other-run .ensures) ∙ c .if5 .left)
 
 loop6-holds : tie.Need-loop6-holds Inv-loop2 μ-loop2 Inv-loop3 μ-loop3 Inv-loop4 μ-loop4 Inv-loop5 μ-loop5 Inv-loop6 μ-loop6 Inv-loop7 μ-loop7 Inv-loop μ-loop
-loop6-holds c = (omega arith, refl)
+loop6-holds c = scan-start _ _ _
 
 mul-row-5 : tie.Need-mul-row-5 Inv-loop2 μ-loop2 Inv-loop3 μ-loop3 Inv-loop4 μ-loop4 Inv-loop5 μ-loop5 Inv-loop6 μ-loop6 Inv-loop7 μ-loop7 Inv-loop μ-loop
 mul-row-5 c = search needs
@@ -244,8 +254,8 @@ mul-row-5 c = search needs
 element-copy-out-row-5 : tie.Need-element-copy-out-row-5 Inv-loop2 μ-loop2 Inv-loop3 μ-loop3 Inv-loop4 μ-loop4 Inv-loop5 μ-loop5 Inv-loop6 μ-loop6 Inv-loop7 μ-loop7 Inv-loop μ-loop
 element-copy-out-row-5 c = search needs
 
-session-requires : tie.Need-session-requires Inv-loop2 μ-loop2 Inv-loop3 μ-loop3 Inv-loop4 μ-loop4 Inv-loop5 μ-loop5 Inv-loop6 μ-loop6 Inv-loop7 μ-loop7 Inv-loop μ-loop
-session-requires c κs = in-body _ _ _ (c .before .before .before .before .before .before .before .before .before .before .decode .ensures) refl
+is-its-session-requires : tie.Need-is-its-session-requires Inv-loop2 μ-loop2 Inv-loop3 μ-loop3 Inv-loop4 μ-loop4 Inv-loop5 μ-loop5 Inv-loop6 μ-loop6 Inv-loop7 μ-loop7 Inv-loop μ-loop
+is-its-session-requires c κs = c .before .before .before .before .before .before .before .before .before .before .decode .ensures .placed
 
 add-filed : tie.Need-add-filed Inv-loop2 μ-loop2 Inv-loop3 μ-loop3 Inv-loop4 μ-loop4 Inv-loop5 μ-loop5 Inv-loop6 μ-loop6 Inv-loop7 μ-loop7 Inv-loop μ-loop
 add-filed c = search needs
@@ -257,10 +267,10 @@ loop6-again : tie.Need-loop6-again Inv-loop2 μ-loop2 Inv-loop3 μ-loop3 Inv-loo
 loop6-again c =
     let k = c .before .before .before .before .loop6 in
     let l = c .before .before .before .before .before .before .before .before .before .before .before .before .before .before .before .before .before .before .before .loop in
-    (omega arith, k .inv .1 ∙ first-next _ (l .sessions .rows) (k .filed) _ (omega (arith, l .inv .2)) (sym (c .before .session2 .ensures) ∙ c .if6 .left))
+    scan-next _ (l .sessions .rows) SESSIONS (k .filed) (l .inv .2) (k .inv) _ (omega arith) (sym (c .before .is-its-session .ensures) ∙ c .if6 .left)
 
 loop7-holds : tie.Need-loop7-holds Inv-loop2 μ-loop2 Inv-loop3 μ-loop3 Inv-loop4 μ-loop4 Inv-loop5 μ-loop5 Inv-loop6 μ-loop6 Inv-loop7 μ-loop7 Inv-loop μ-loop
-loop7-holds c = (omega arith, refl)
+loop7-holds c = scan-start _ _ _
 
 mul-row-6 : tie.Need-mul-row-6 Inv-loop2 μ-loop2 Inv-loop3 μ-loop3 Inv-loop4 μ-loop4 Inv-loop5 μ-loop5 Inv-loop6 μ-loop6 Inv-loop7 μ-loop7 Inv-loop μ-loop
 mul-row-6 c = search needs
@@ -268,8 +278,8 @@ mul-row-6 c = search needs
 element-copy-out-row-6 : tie.Need-element-copy-out-row-6 Inv-loop2 μ-loop2 Inv-loop3 μ-loop3 Inv-loop4 μ-loop4 Inv-loop5 μ-loop5 Inv-loop6 μ-loop6 Inv-loop7 μ-loop7 Inv-loop μ-loop
 element-copy-out-row-6 c = search needs
 
-place-requires : tie.Need-place-requires Inv-loop2 μ-loop2 Inv-loop3 μ-loop3 Inv-loop4 μ-loop4 Inv-loop5 μ-loop5 Inv-loop6 μ-loop6 Inv-loop7 μ-loop7 Inv-loop μ-loop
-place-requires c κs = search needs
+is-its-place-requires : tie.Need-is-its-place-requires Inv-loop2 μ-loop2 Inv-loop3 μ-loop3 Inv-loop4 μ-loop4 Inv-loop5 μ-loop5 Inv-loop6 μ-loop6 Inv-loop7 μ-loop7 Inv-loop μ-loop
+is-its-place-requires c κs = search needs
 
 add-free : tie.Need-add-free Inv-loop2 μ-loop2 Inv-loop3 μ-loop3 Inv-loop4 μ-loop4 Inv-loop5 μ-loop5 Inv-loop6 μ-loop6 Inv-loop7 μ-loop7 Inv-loop μ-loop
 add-free c = search needs
@@ -281,7 +291,7 @@ loop7-again : tie.Need-loop7-again Inv-loop2 μ-loop2 Inv-loop3 μ-loop3 Inv-loo
 loop7-again c =
     let k = c .before .before .before .before .loop7 in
     let l = c .before .before .before .before .before .before .before .before .before .before .before .before .before .before .before .before .before .before .before .before .before .loop in
-    (omega arith, k .inv .1 ∙ first-next _ (l .sessions .rows) (k .free) _ (omega (arith, l .inv .2)) (sym (c .before .place .ensures) ∙ c .if7 .left))
+    scan-next _ (l .sessions .rows) SESSIONS (k .free) (l .inv .2) (k .inv) _ (omega arith) (sym (c .before .is-its-place .ensures) ∙ c .if7 .left)
 
 or-else-requires : tie.Need-or-else-requires Inv-loop2 μ-loop2 Inv-loop3 μ-loop3 Inv-loop4 μ-loop4 Inv-loop5 μ-loop5 Inv-loop6 μ-loop6 Inv-loop7 μ-loop7 Inv-loop μ-loop
 or-else-requires c κs = search needs
@@ -296,7 +306,7 @@ slice-aggregate-take : tie.Need-slice-aggregate-take Inv-loop2 μ-loop2 Inv-loop
 slice-aggregate-take c = search needs
 
 take-requires : tie.Need-take-requires Inv-loop2 μ-loop2 Inv-loop3 μ-loop3 Inv-loop4 μ-loop4 Inv-loop5 μ-loop5 Inv-loop6 μ-loop6 Inv-loop7 μ-loop7 Inv-loop μ-loop
-take-requires c κs = (c .before .before .before .before .before .before .before .before .before .before .before .before .before .before .decode .ensures, ap (λ (a : Ask). a .key) (sym (c .before .before .before .before .before .before .before .before .before .before .before .before .before .asked-by .ensures)) ∙ c .before .before .before .before .before .before .before .before .before .before .before .before .if1 .left, omega arith)
+take-requires c κs = (c .before .before .before .before .before .before .before .before .before .before .before .before .before .before .decode .ensures .placed, ap (λ (a : Ask). a .key) (sym (c .before .before .before .before .before .before .before .before .before .before .before .before .before .asked-by .ensures)) ∙ c .before .before .before .before .before .before .before .before .before .before .before .before .if1 .left, omega arith)
 
 mul-run-2 : tie.Need-mul-run-2 Inv-loop2 μ-loop2 Inv-loop3 μ-loop3 Inv-loop4 μ-loop4 Inv-loop5 μ-loop5 Inv-loop6 μ-loop6 Inv-loop7 μ-loop7 Inv-loop μ-loop
 mul-run-2 c = search needs
@@ -327,13 +337,14 @@ after c =
     packed (s .ready) (s .domain) (s .restart) (s .lifetime) (c .if1 .clock) (c .if1 .last) (c .if1 .runs) (c .if1 .sessions)
 
 -- both ways to the line answered the event
-step : (c : tie.Joined1 Inv-loop2 μ-loop2 Inv-loop3 μ-loop3 Inv-loop4 μ-loop4 Inv-loop5 μ-loop5 Inv-loop6 μ-loop6 Inv-loop7 μ-loop7 Inv-loop μ-loop) → Stepped (before c) (c .before .before .before .before .before .before .before .before .before .before .before .before .before .before .before .before .args .t2) (body c) (replicate 160 0) (after c) (c .if1 .reply) (c .if1 .buffer)
+step : (c : tie.Joined1 Inv-loop2 μ-loop2 Inv-loop3 μ-loop3 Inv-loop4 μ-loop4 Inv-loop5 μ-loop5 Inv-loop6 μ-loop6 Inv-loop7 μ-loop7 Inv-loop μ-loop) → Stepped (before c) (c .before .before .before .before .before .before .before .before .before .before .before .before .before .before .before .before .args .t2) (body c) (replicate ROOM 0) (after c) (c .if1 .reply) (c .if1 .buffer)
+unfolding putRun putSession runIn sessionIn namedOf
 step c =
     let l = c .before .before .before .before .before .before .before .before .before .loop in
     let z = c .before .before .before .before .before .before .before .before .before .before .before .before .before .before .before .before .args in
     let t = before c in
     let s = body c in
-    let o = replicate {A = ℕ} 160 0 in
+    let o = replicate {A = ℕ} ROOM 0 in
     let d = c .before .before .decode .ensures in
     let a = c .before .asked-by .ensures in
     ⊎-elim
@@ -343,17 +354,23 @@ step c =
     let w =
     ⊎-elim (λ f. policy-none (z .t2) _ _ _ (e .3 .r) (i .2) (i .3) _ _ (e .6 .ensures) (f .left))
     (λ f. policy-row (z .t2) _ _ _ (e .3 .r) (i .2) (i .3) _ _ (e .6 .ensures) (omega (arith, n, i .1)) _ _ _ (f .0 .taken) (omega (arith, f .0 .taken, i .1)) refl _ (f .2 .ensures) (f .3 .taken)) (e .4 .came) in
-    let j = ⊎-elim (λ f. ends-past _ (l .sessions .rows) 64 (e .7 .j) (l .inv .2) (e .7 .inv .1) (f .left)) (λ f. ends-here _ (l .sessions .rows) 64 (e .7 .j) (l .inv .2) (e .7 .inv .1) _ (f .0 .taken) (sym (f .2 .ensures) ∙ f .3 .taken)) (e .8 .came) in
-    stepped-as t _ s o _ _ _ _ _ _ _ _ _ _ _ _ _ _ _ _ (e .13) (e .14) (e .15) (e .16) (e .17) (e .18)
-    (stepped-key t (z .t2) s o _ refl (e .11 .kept .1 .1 .1 .1 .1 .1 .0) (l .inv .1) (l .inv .2) _ _ _ _ d a (e .0 .taken) w
-    (e .11 .ensures t _ refl j (λ h. row-here (l .sessions .rows) _ (e .7 .j) _ noSession (omega (arith, h)) (omega (arith, l .inv .2, h))))))
+    let q = key-asked s _ _ _ (d .placed) a (e .0 .taken) in
+    stepped-as t _ s o _ _ _ _ _ _ _ _ _ _ _ _ _ _ _ _ (e .14) (e .15) (e .16) (e .17) (e .18) (e .19)
+    (stepped-key t (z .t2) s o _ refl (e .12 .kept .1 .1 .1 .1 .1 .1 .0) (l .inv .1) (l .inv .2) _ _ _ _ d a (e .0 .taken) w
+    (e .12 .ensures t (q .values) (q .naf-is) (q .application-is) refl
+    (λ f. subst (λ (x : List ℕ). Ends (firstSession (isNamed x (nameOctets (t .domain)) (c .before .asked-by .result .time)) (t .sessions)) SESSIONS (e .8 .j)) (q .btid-is)
+    (⊎-elim
+    (λ g. ends-past _ (l .sessions .rows) SESSIONS (e .8 .j) (l .inv .2) (e .8 .inv .1 f) (g .left))
+    (λ g. ends-here _ (l .sessions .rows) SESSIONS (e .8 .j) (l .inv .2) (e .8 .inv .1 f) _ (g .0 .taken) (sym (g .2 .ensures) ∙ g .3 .taken))
+    (e .9 .came)))
+    (λ h. row-here (l .sessions .rows) _ (e .8 .j) _ noSession (omega (arith, h)) (omega (arith, l .inv .2, h))))))
     (λ e.
-    let own = ⊎-elim (λ f. ends-past _ (l .runs .rows) 32 (e .1 .own) (l .inv .1) (e .1 .inv .1) (f .left)) (λ f. ends-here _ (l .runs .rows) 32 (e .1 .own) (l .inv .1) (e .1 .inv .1) _ (f .0 .taken) (sym (f .2 .ensures) ∙ f .3 .taken)) (e .2 .came) in
-    let other = ⊎-elim (λ f. ends-past _ (l .runs .rows) 32 (e .4 .other) (l .inv .1) (e .4 .inv .1) (f .left)) (λ f. ends-here _ (l .runs .rows) 32 (e .4 .other) (l .inv .1) (e .4 .inv .1) _ (f .0 .taken) (sym (f .2 .ensures) ∙ f .3 .taken)) (e .5 .came) in
-    let filed = ⊎-elim (λ f. ends-past _ (l .sessions .rows) 64 (e .6 .filed) (l .inv .2) (e .6 .inv .1) (f .left)) (λ f. ends-here _ (l .sessions .rows) 64 (e .6 .filed) (l .inv .2) (e .6 .inv .1) _ (f .0 .taken) (sym (f .2 .ensures) ∙ f .3 .taken)) (e .7 .came) in
-    let free = ⊎-elim (λ f. ends-past _ (l .sessions .rows) 64 (e .8 .free) (l .inv .2) (e .8 .inv .1) (f .left)) (λ f. ends-here _ (l .sessions .rows) 64 (e .8 .free) (l .inv .2) (e .8 .inv .1) _ (f .0 .taken) (sym (f .2 .ensures) ∙ f .3 .taken)) (e .9 .came) in
+    let own = ⊎-elim (λ f. ends-past _ (l .runs .rows) RUNS (e .1 .own) (l .inv .1) (e .1 .inv) (f .left)) (λ f. ends-here _ (l .runs .rows) RUNS (e .1 .own) (l .inv .1) (e .1 .inv) _ (f .0 .taken) (sym (f .2 .ensures) ∙ f .3 .taken)) (e .2 .came) in
+    let other = ⊎-elim (λ f. ends-past _ (l .runs .rows) RUNS (e .4 .other) (l .inv .1) (e .4 .inv) (f .left)) (λ f. ends-here _ (l .runs .rows) RUNS (e .4 .other) (l .inv .1) (e .4 .inv) _ (f .0 .taken) (sym (f .2 .ensures) ∙ f .3 .taken)) (e .5 .came) in
+    let filed = ⊎-elim (λ f. ends-past _ (l .sessions .rows) SESSIONS (e .6 .filed) (l .inv .2) (e .6 .inv) (f .left)) (λ f. ends-here _ (l .sessions .rows) SESSIONS (e .6 .filed) (l .inv .2) (e .6 .inv) _ (f .0 .taken) (sym (f .2 .ensures) ∙ f .3 .taken)) (e .7 .came) in
+    let free = ⊎-elim (λ f. ends-past _ (l .sessions .rows) SESSIONS (e .8 .free) (l .inv .2) (e .8 .inv) (f .left)) (λ f. ends-here _ (l .sessions .rows) SESSIONS (e .8 .free) (l .inv .2) (e .8 .inv) _ (f .0 .taken) (sym (f .2 .ensures) ∙ f .3 .taken)) (e .9 .came) in
     stepped-as t _ s o _ _ _ _ _ _ _ _ _ _ _ _ _ _ _ _ (e .18) (e .19) (e .20) (e .21) (e .22) (e .23)
-    (stepped-turn t (z .t2) s o _ refl (e .13 .kept .1 .1 .1 .0) (l .inv .1) (l .inv .2) _ _ _ _ _
+    (stepped-turn t (z .t2) s o _ refl (e .13 .kept .1 .1 .1 .0) (l .inv .1) (l .inv .2) _ _ _ _ _ d
     (record {
       sees = record {
         ready-is = refl;
@@ -371,7 +388,7 @@ step c =
       run = own;
       other = other;
       session = filed;
-      place = ends-or _ _ 64 _ _ _ (e .10 .ensures) filed free;
+      place = ends-or _ _ SESSIONS _ _ _ (e .10 .ensures) filed free;
     })
     (e .13 .ensures)))
     (c .if1 .came)
@@ -460,6 +477,7 @@ serve-spec =
     mul-listed
     element-copy-out-listed
     policy-of-requires
+    search-from-requires
     loop3-holds
     mul-row-2
     element-copy-out-row-2
@@ -474,7 +492,7 @@ serve-spec =
     loop4-holds
     mul-row-3
     element-copy-out-row-3
-    run-requires
+    is-its-run-requires
     add-own
     loop4-less
     loop4-again
@@ -483,21 +501,21 @@ serve-spec =
     loop5-holds
     mul-row-4
     element-copy-out-row-4
-    other-requires
+    is-other-run-requires
     add-other
     loop5-less
     loop5-again
     loop6-holds
     mul-row-5
     element-copy-out-row-5
-    session-requires
+    is-its-session-requires
     add-filed
     loop6-less
     loop6-again
     loop7-holds
     mul-row-6
     element-copy-out-row-6
-    place-requires
+    is-its-place-requires
     add-free
     loop7-less
     loop7-again

@@ -3,7 +3,7 @@ use mathlib.Core.Path.{sym, ap}
 use lib.ListN.{length, take, length-drop}
 use lib.Seq.{length-take-le}
 use Rattle.flow.proofs.Fronts.{lent-end, end-put}
-use Rattle.printed.proofs.Laws.{line-long}
+use Rattle.program.proofs.Lines.{line-long}
 use native.Mathlib.Omega.{arith}
 use borrow.Author.Needs.{needs}
 use Rattle.batch.proofs.tell.Statement.{statement}

@@ -52,10 +52,10 @@ use Rattle.flow.proofs.Reply as R
 use Rattle.flow.proofs.Reply.Laws as R′
 use Rattle.outcome.proofs.Outcome as O
 use Rattle.outcome.proofs.Outcome.Laws as O′
-use Rattle.entry.proofs.event as g
-use Rattle.entry.proofs.event.Symbol as g-def
-use Rattle.entry.proofs.event.Symbol.{name as #entry·event}
-use Rattle.entry.proofs.event.Met as g-thm
+use Rattle.server.proofs.event as g
+use Rattle.server.proofs.event.Symbol as g-def
+use Rattle.server.proofs.event.Symbol.{name as #server·event}
+use Rattle.server.proofs.event.Met as g-thm
 use Rattle.exports.proofs.pr_event.Key.{name as #exports·pr-event}
 use Rattle.exports.proofs.pr_event as f
 use Rattle.exports.proofs.pr_event.Statement as stated
@@ -125,7 +125,7 @@ module _ {M : Type 1} (𝓤 : URA M) (H : Heap 𝓤) (A : Atoms 𝓤) (W : Given
       nothing ! $ move ! (2 ∷ 0 ∷ []) $ fjoin ! $ nothing ! $ fjoin ! $ nothing ! $ fjoin ! $ move ! (1 ∷ 0 ∷ []) $ fjoin ! $ frame ! $
       owned ! R.the-row (Is R.the-row) (LL.makes R.the-type R′.the-plain 𝓤 H A) (x .reply) _ ok $ done !
 
-  module _ (𝓣 : Tables 𝓤 H) (known : Triple 𝓤 (𝓣 .C #entry·event) (Known 𝓤 H A at-mem run)) where
+  module _ (𝓣 : Tables 𝓤 H) (known : Triple 𝓤 (𝓣 .C #server·event) (Known 𝓤 H A at-mem run)) where
     walk : length (rows .now) < 2 ^ 64 → length (body .now) < 2 ^ 64 → length (out .now) < 2 ^ 64
         → ent 𝓤 (onEntry 𝓤 H A f.signature κs qs a at) (WpFn 𝓤 H (𝓣 .C) (𝓣 .Λ) code.function (vptr b o ∷ sliceVal (rows .ptr) (length (rows .now)) ∷ sliceVal (body .ptr) (length (body .now)) ∷ sliceVal (out .ptr) (length (out .now)) ∷ []) Post)
     walk g-rows g-body g-out =
@@ -160,7 +160,7 @@ module _ {M : Type 1} (𝓤 : URA M) (H : Heap 𝓤) (A : Atoms 𝓤) (W : Given
         move ! (21 ∷ 22 ∷ []) $ free1 ! $ move ! (19 ∷ 20 ∷ []) $ free1 ! $ move ! (17 ∷ 18 ∷ []) $ free1 ! $ move ! (15 ∷ 16 ∷ []) $ free1 ! $ move ! (13 ∷ 14 ∷ []) $ free1 ! $ move ! (11 ∷ 12 ∷ []) $ free1 ! $ move ! (9 ∷ 10 ∷ []) $ free1 ! $ move ! (7 ∷ 8 ∷ []) $ free1 ! $ move ! (5 ∷ 6 ∷ []) $ free1 ! $ free0 ! $
         keep ! (0 ∷ 1 ∷ 2 ∷ 3 ∷ 4 ∷ []) $ by ! (exits x (zs .1 .1 .1 .0) e lzs₀ (LL.owed O.the-type O′.the-laws x _ is .1 .0)))))))))))))))))))
 
-module _ {M : Type 1} (𝓤 : URA M) (H : Heap 𝓤) (A : Atoms 𝓤) (W : Given 𝓤 H A) (at-mem : Memory → SProp 𝓤) (run : Routine → Fun 𝓤) (𝓣 : Tables 𝓤 H) (known : Triple 𝓤 (𝓣 .C #entry·event) (Known 𝓤 H A at-mem run)) where
+module _ {M : Type 1} (𝓤 : URA M) (H : Heap 𝓤) (A : Atoms 𝓤) (W : Given 𝓤 H A) (at-mem : Memory → SProp 𝓤) (run : Routine → Fun 𝓤) (𝓣 : Tables 𝓤 H) (known : Triple 𝓤 (𝓣 .C #server·event) (Known 𝓤 H A at-mem run)) where
   walks : Walks 𝓤 H A f.ended stayed (WpFn 𝓤 H (𝓣 .C) (𝓣 .Λ) code.function) (f.clauses 𝓤 H A at-mem run)
   walks = walked 𝓤 H A f.ended stayed (f.clauses 𝓤 H A at-mem run) (WpFn 𝓤 H (𝓣 .C) (𝓣 .Λ) code.function) (λ κs. (ptr-vals, (slice-vals, (slice-vals, (slice-vals, tt)))))
       (λ κs. (mut-tells (named 0) (κs .0) D.the-row, (shr-slice-tells (named 1) (κs .1 .0) T.the-row, (shr-slice-tells (named 1) (κs .1 .0) u8, (mut-slice-tells (named 2) (κs .1 .1 .0) u8, tt)))))
@@ -179,4 +179,4 @@ pr-event-spec 𝓤 H 𝓜 𝓖 𝓡 =
     entered 𝓤 H (tripleOf 𝓤 H (𝓖 .A) f.signature (f.spec 𝓤 H (𝓖 .A) (𝓜 .mem) (𝓡 .run)))
     (tables 𝓤 H 𝓜 𝓡 code.env .C) (tables 𝓤 H 𝓜 𝓡 code.env .Λ) #exports·pr-event code.function (code.unfolded 𝓤 H 𝓜 𝓡)
     (meets 𝓤 H (𝓖 .A) (givenOf 𝓤 H 𝓜 𝓖) (𝓜 .mem) (𝓡 .run) (tablesOf 𝓤 H 𝓜 (tables 𝓤 H 𝓜 𝓡 code.env))
-    (cited 𝓤 H (Known 𝓤 H (𝓖 .A) (𝓜 .mem) (𝓡 .run)) 𝓜 𝓡 code.env #entry·event g-def.routine code.calls-entry·event (g-thm.met 𝓤 H 𝓜 𝓖 𝓡)))
+    (cited 𝓤 H (Known 𝓤 H (𝓖 .A) (𝓜 .mem) (𝓡 .run)) 𝓜 𝓡 code.env #server·event g-def.routine code.calls-server·event (g-thm.met 𝓤 H 𝓜 𝓖 𝓡)))

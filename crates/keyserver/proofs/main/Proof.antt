@@ -3,7 +3,7 @@ use Prim.Native.Nat.{_≤_}
 use mathlib.Core.Path.{sym, _∙_}
 use lib.ListN.{length}
 use lib.Seq.{length-take-le}
-use Rattle.feed.proofs.Ends.{whole-ends}
+use Rattle.program.proofs.Ends.{whole-ends}
 use native.Mathlib.Omega.{arith}
 use borrow.Author.Needs.{needs}
 use Rattle.keyserver.proofs.main.Statement.{statement}
@@ -63,13 +63,21 @@ slice-aggregate-run c = search needs
 slice-aggregate-run-2 : tie.Need-slice-aggregate-run-2
 slice-aggregate-run-2 c = search needs
 
+-- what is held lies within the buffer, and the buffer is as long as it was
+held : (k : tie.After-begin) → k .begin .result ≤ length (k .begin .last .0)
+held k = search needs
+
+long : (k : tie.After-begin) → length (k .begin .last .0) ≤ 65536
+long k = search needs
+
 run-requires : tie.Need-run-requires
 run-requires c κs =
-    let g = c .before .before .before .before .before .before .before .before .before .before .before .before .before .before .before .before .begin in
-    let h : g .result ≤ length (g .last .0) = search needs in
-    let e = whole-ends _ _ _ _ _ _ _ _ (sym (c .before .before .before .before .before .before .before .before .before .before .before .before .before .read-opening .ensures) ∙ c .before .before .before .before .before .before .before .before .before .before .before .domain .given .1) in
-    let k = length-take-le (g .result) (g .last .0) h in
-    (omega (arith, e, k), h, search needs)
+    let part = c .before .before .before .before .before .before in
+    let told = part .before .before .before .before .before in
+    let read = told .before .before in
+    let k = read .before .before .before in
+    let e = whole-ends _ _ _ _ _ _ _ _ (sym (read .read-opening .ensures) ∙ told .domain .given .1) in
+    (omega (arith, e, length-take-le (k .begin .result) (k .begin .last .0) (held k)), held k, long k)
 
 returns-3 : tie.Need-returns-3
 returns-3 c = search needs

@@ -40,7 +40,8 @@ serve-requires c κs =
     let l = c .before .before .before .before .loop in
     let w = l .inv in
     let e = length-take-le (l .held) (l .input) (w .1) in
-    (omega (arith, e, w .0), omega (arith, e, w .1, w .2, c .before .before .before .before .before .before .before .pre .2, c .before .before .if1 .left))
+    let z = c .before .before .before .before .before .before .before in
+    (omega (arith, e, w .0), omega (arith, e, w .1, w .2, z .pre .2, c .before .before .if1 .left))
 
 slice-reshare-prefix-write-all : tie.Need-slice-reshare-prefix-write-all Inv-loop μ-loop
 slice-reshare-prefix-write-all c = search needs
@@ -52,10 +53,14 @@ write-all-requires : tie.Need-write-all-requires Inv-loop μ-loop
 write-all-requires c κs = search needs
 
 same-length-3 : tie.Need-same-length-3 Inv-loop μ-loop
-same-length-3 c = c .before .before .before .before .before .before .before .before .before .before .loop .inv .2
+same-length-3 c =
+    let k = c .before .before .before .before .before in
+    k .before .before .before .before .before .loop .inv .2
 
 same-length-4 : tie.Need-same-length-4 Inv-loop μ-loop
-same-length-4 c = omega (arith, c .before .before .before .before .before .before .before .before .before .before .loop .inv .3)
+same-length-4 c =
+    let k = c .before .before .before .before .before in
+    omega (arith, k .before .before .before .before .before .loop .inv .3)
 
 returns-2 : tie.Need-returns-2 Inv-loop μ-loop
 returns-2 c = search needs
@@ -64,10 +69,16 @@ enum-told : tie.Need-enum-told Inv-loop μ-loop
 enum-told c = search needs
 
 same-length-5 : tie.Need-same-length-5 Inv-loop μ-loop
-same-length-5 c = c .before .before .before .before .before .before .before .before .before .before .before .before .before .loop .inv .2
+same-length-5 c =
+    let written = c .before .before .before .before .before .before in
+    let served = written .before .before .before .before in
+    served .before .before .before .loop .inv .2
 
 same-length-6 : tie.Need-same-length-6 Inv-loop μ-loop
-same-length-6 c = omega (arith, c .before .before .before .before .before .before .before .before .before .before .before .before .before .loop .inv .3)
+same-length-6 c =
+    let written = c .before .before .before .before .before .before in
+    let served = written .before .before .before .before in
+    omega (arith, served .before .before .before .loop .inv .3)
 
 returns-3 : tie.Need-returns-3 Inv-loop μ-loop
 returns-3 c = search needs
@@ -80,15 +91,25 @@ enum-told-3 c = search needs
 
 read-on-requires : tie.Need-read-on-requires Inv-loop μ-loop
 read-on-requires c κs =
-    let l = c .before .before .before .before .before .before .before .before .before .before .before .before .before .before .loop in
+    let written = c .before .before .before .before .before in
+    let served = written .before .before .before .before in
+    let l = served .before .before .before .before .before .loop in
     let e = length-take-le (l .held) (l .input) (l .inv .1) in
-    (omega (arith, e, c .before .before .before .before .before .before .before .before .before .serve .ensures .inside), l .inv .1)
+    (omega (arith, e, served .serve .ensures .inside), l .inv .1)
 
 same-length-7 : tie.Need-same-length-7 Inv-loop μ-loop
-same-length-7 c = omega (arith, c .before .before .before .before .before .before .before .before .before .before .before .before .before .before .before .before .before .before .loop .inv .2)
+same-length-7 c =
+    let read = c .before .before .before .before in
+    let written = read .before .before .before .before .before in
+    let served = written .before .before .before .before in
+    omega (arith, served .before .before .before .before .before .loop .inv .2)
 
 same-length-8 : tie.Need-same-length-8 Inv-loop μ-loop
-same-length-8 c = omega (arith, c .before .before .before .before .before .before .before .before .before .before .before .before .before .before .before .before .before .before .loop .inv .3)
+same-length-8 c =
+    let read = c .before .before .before .before in
+    let written = read .before .before .before .before .before in
+    let served = written .before .before .before .before in
+    omega (arith, served .before .before .before .before .before .loop .inv .3)
 
 returns-4 : tie.Need-returns-4 Inv-loop μ-loop
 returns-4 c = search needs
@@ -97,15 +118,19 @@ sub-turns : tie.Need-sub-turns Inv-loop μ-loop
 sub-turns c = search needs
 
 loop-less : tie.Need-loop-less Inv-loop μ-loop
-loop-less c = omega (arith, c .before .before .before .before .before .before .before .before .before .before .before .loop-test .taken)
+loop-less c =
+    let served = c .before .before .before .before .before .before in
+    omega (arith, served .before .before .before .before .before .loop-test .taken)
 
 loop-again : tie.Need-loop-again Inv-loop μ-loop
 loop-again c =
-    let l = c .before .before .before .before .before .before .before .before .before .before .before .before .loop in
+    let served = c .before .before .before .before .before .before .before in
+    let l = served .before .before .before .before .before .loop in
     let v = l .inv in
     let e = length-take-le (l .held) (l .input) (v .1) in
     ⊎-elim
-    (λ w. (omega (arith, w .3, w .4, e, c .before .before .before .before .before .before .before .serve .ensures .inside), omega (arith, w .4, ap length (w .2), v .1), ap length (w .2) ∙ v .2, omega (arith, v .3)))
+    (λ w.
+    (omega (arith, w .3, w .4, e, served .serve .ensures .inside), omega (arith, w .4, ap length (w .2), v .1), ap length (w .2) ∙ v .2, omega (arith, v .3)))
     (λ w. (omega (arith, w .8), omega (arith, w .9, ap length (w .7), w .3 .ensures), omega (arith, ap length (w .7), v .2), omega (arith, v .3)))
     (c .match .came)
 

@@ -39,8 +39,13 @@ cast-t9 c = search needs
 returns-6 : tie.Need-returns-6
 unfolding openRule
 returns-6 c =
-    opening-made _ _ _ (opened-fresh _ _ _ _ _ (c .before .before .before .before .before .before .closed .ensures) (c .of .ensures))
-    (passes-other _ _ _ _ _ (c .before .before .before .before .before .if1 .left) (passes-above _ _ _ _ _ (c .before .before .before .before .if2 .left) (passes-above _ _ _ _ _ (c .before .before .before .if3 .left) (passes-above _ _ _ _ _ (c .before .before .if4 .left) (passes-above _ _ _ _ _ (c .before .if5 .left) refl)))))
+    let some = c .before .before .before .before .before in
+    opening-made _ _ _ (opened-fresh _ _ _ _ _ (some .before .closed .ensures) (c .of .ensures))
+    (passes-other _ _ _ _ _ (some .if1 .left)
+    (passes-above _ _ _ _ _ (c .before .before .before .before .if2 .left)
+    (passes-above _ _ _ _ _ (c .before .before .before .if3 .left)
+    (passes-above _ _ _ _ _ (c .before .before .if4 .left)
+    (passes-above _ _ _ _ _ (c .before .if5 .left) refl)))))
 
 pub open-spec : {M : Type 1} → statement M
 open-spec =

@@ -1,6 +1,5 @@
 -- Six octets are eight letters at the most, and what was written lies within the array.
 use mathlib.Core.Path.{sym}
-use lib.ListN.{length}
 use lib.Seq.{length-take-le}
 use Rattle.base64.proofs.Apart.{length-base64}
 use native.Mathlib.Omega.{arith}
@@ -21,7 +20,10 @@ array-share-prefix-out : tie.Need-array-share-prefix-out
 array-share-prefix-out c = omega (arith, length-base64 (c .before .before .before .before .before .before .args .s .now), c .before .put-base64 .ensures .count)
 
 slice-aggregate-same : tie.Need-slice-aggregate-same
-slice-aggregate-same c = sym (length-take-le (c .before .before .put-base64 .result) (c .before .before .put-base64 .last .1 .0) (omega (arith, length-base64 (c .before .before .before .before .before .before .before .args .s .now), c .before .before .put-base64 .ensures .count)))
+slice-aggregate-same c =
+    let made = c .before .before in
+    let s = made .before .before .before .before .before .args .s .now in
+    sym (length-take-le (made .put-base64 .result) (made .put-base64 .last .1 .0) (omega (arith, length-base64 s, made .put-base64 .ensures .count)))
 
 same-requires : tie.Need-same-requires
 same-requires c κs = search needs

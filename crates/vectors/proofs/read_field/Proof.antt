@@ -53,7 +53,9 @@ returns-3 : tie.Need-returns-3
 returns-3 c = search needs
 
 mul-end : tie.Need-mul-end
-mul-end c = let p = c .before .before .before .before .before .before in omega (arith, mul-le-mul (le-of-lt (p .before .before .number .ensures)) (le-of-lt (p .number2 .ensures)))
+mul-end c =
+    let p = c .before .before .before .before .before .before in
+    omega (arith, mul-le-mul (le-of-lt (p .before .before .number .ensures)) (le-of-lt (p .number2 .ensures)))
 
 same-length-2 : tie.Need-same-length-2
 same-length-2 c = search needs

@@ -38,7 +38,9 @@ loop-less : tie.Need-loop-less Inv-loop μ-loop
 loop-less c = search needs
 
 loop-again : tie.Need-loop-again Inv-loop μ-loop
-loop-again c = let l = c .before .before .loop in ⊎-elim (λ w. ap length (w .2) ∙ simp length-set (l .inv)) (λ w. ap length (w .2) ∙ simp length-set (l .inv)) (c .if1 .came)
+loop-again c =
+    let l = c .before .before .loop in
+    ⊎-elim (λ w. ap length (w .2) ∙ simp length-set (l .inv)) (λ w. ap length (w .2) ∙ simp length-set (l .inv)) (c .if1 .came)
 
 same-length : tie.Need-same-length Inv-loop μ-loop
 same-length c = search needs

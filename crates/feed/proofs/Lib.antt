@@ -1,5 +1,0 @@
-pub mod Laws
-pub mod Filling
-pub mod Ends
-pub mod Arrived
-pub mod Opened

@@ -1,4 +1,0 @@
-pub mod Cut
-pub mod Opening
-pub mod Rows
-pub mod Frame

@@ -1,4 +1,0 @@
-pub mod Laws
-pub mod Settings
-pub mod Event
-pub mod Ranges
