@@ -1,4 +1,6 @@
 // The events that have arrived, answered one after another, each on the state last handed back, and a line for each. Document 01, "The event program".
+#![tactic(auto)]
+
 ghost use Rattle.std.specs.Prelude.{◌+◌, ◌≤◌, ◌<◌, ◌^◌, ◌≡◌, length};
 ghost use Rattle.flow.specs.Front.{Put};
 ghost use Rattle.limits.specs.Limits.{ROOM, LINE};

@@ -1,5 +1,7 @@
 // What a VECTOR brings, by value: the octets that stand in the body at the places its decoder read. Document 01, "Events and numbers on the
 // line" and "Opening, clock, tables".
+#![tactic(auto)]
+
 ghost use Rattle.std.specs.Prelude.{◌+◌, ◌≤◌, ◌≡◌, length};
 ghost use Rattle.limits.specs.Limits.{BARE, ENTRIES};
 ghost use Rattle.line.specs.Text.{between};

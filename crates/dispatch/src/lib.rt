@@ -1,5 +1,7 @@
 // From an event to its rule: which runs and sessions an event is about, and what it gets of an owner of the tables that has searched for them.
 // Document 01, "What each event does".
+#![tactic(auto)]
+
 ghost use Rattle.std.specs.Prelude.{◌≤◌, ◌≡◌, false, length};
 ghost use Rattle.limits.specs.Limits.{TIME, ROOM};
 ghost use Rattle.names.specs.Name.{name_octets};

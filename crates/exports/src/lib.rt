@@ -1,5 +1,7 @@
 // The entry points for C and Rust, each under its own name with `pr_` in front. A slice is two parameters: a pointer and a count.
 // The state is the caller's memory: it is read once, the proved function takes it by value, and the state that comes back is written over it.
+#![tactic(auto)]
+
 ghost use Rattle.std.specs.Prelude.{◌≡◌, length};
 ghost use Rattle.flow.specs.Reply.{Met};
 ghost use Rattle.sha256.specs.Digest.{sha256_rule};

@@ -1,5 +1,7 @@
 // The event program: document 01, "The event program". It reads an opening part and events from standard input, and prints a line for each event
 // as soon as the event has arrived. What is read, answered and printed is said in the crates program and batch; here is the input and output.
+#![tactic(auto)]
+
 ghost use Rattle.std.specs.Prelude.{◌≡◌, ◌-◌, ◌≤◌, length, take, drop};
 
 use batch::Why;

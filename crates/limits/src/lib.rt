@@ -1,4 +1,5 @@
 // Every limit of document 01, once: for the code here, and for the definitions in specs/. A sum of limits is written as one.
+#![tactic(auto)]
 
 // A number that is read has at most so many groups of seven bits, and any number of 64 bits at most so many.
 pub const GROUPS: usize = 6;

@@ -1,4 +1,6 @@
 // The opening: document 01, "Opening, clock, tables". Values out of range are NOT OPEN, and hand back the closed state.
+#![tactic(auto)]
+
 ghost use Rattle.std.specs.Prelude.{◌≡◌};
 ghost use Rattle.rules.specs.Opening.{closed, open_rule};
 ghost use Rattle.opening.specs.Opening.{opening_of};

@@ -1,6 +1,8 @@
 // What the event program reads, the opening part and the events, each after its body length, and the line that it prints for each event. Document 01,
 // "The event program".
 // The input may still be arriving, so each reader tells what is not whole yet from what no further octet can mend.
+#![tactic(auto)]
+
 ghost use Rattle.std.specs.Prelude.{◌≡◌, ◌+◌, ◌*◌, ◌≤◌, ◌<◌, ◌^◌, length};
 ghost use Rattle.flow.specs.Front.{Wrote, Put};
 ghost use Rattle.program.specs.Cut.{cut_in, cut_number, cut_text};
@@ -252,7 +254,7 @@ fn row_of(
 }
 
 // Where no row stands: one that matches nothing.
-fn or_else-nothing(at: usize) -> Placed
+fn no_place(at: usize) -> Placed
     ensures { result ≡ no_place at }
 {
     Placed {
@@ -279,8 +281,8 @@ fn place(s: &[u8], at: usize) -> Placed
             row: row_of(s, peer, peer_end, fqdn, fqdn_end, identity, group, required),
             end,
         },
-        RowRead::More => or_else-nothing(at),
-        RowRead::Bad => or_else-nothing(at),
+        RowRead::More => no_place(at),
+        RowRead::Bad => no_place(at),
     }
 }
 

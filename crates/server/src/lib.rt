@@ -1,4 +1,6 @@
 // One event on a state: the two checks in front of every event, and then the rule of its kind. Document 01, "What goes back".
+#![tactic(auto)]
+
 ghost use Rattle.std.specs.Prelude.{length};
 ghost use Rattle.event.specs.Table.{decoded};
 ghost use Rattle.outcome.specs.Outcome.{Met};

@@ -1,4 +1,6 @@
 // SHA-256's rounds: what a block of 64 octets makes of a hash value. FIPS 180-4, 4 and 6.2.2.
+#![tactic(auto)]
+
 ghost use Rattle.std.specs.Prelude.{◌≡◌, ℕ, ◌+◌, ◌*◌, ◌<◌, ◌≤◌, length};
 ghost use Rattle.blocks.specs.Functions.{Ch, Maj};
 ghost use Rattle.blocks.specs.Schedule.{WORDS, back, Scheduled};

@@ -1,5 +1,7 @@
 // Runs the published vectors of SHA-256 (NIST) and of HMAC with SHA-256 (RFC 4231), and RFC 3548's examples of base64, and says of each how many
 // were run and how many came out equal. data/README.md says where the files come from and how they are laid out.
+#![tactic(auto)]
+
 ghost use Rattle.std.specs.Prelude.{◌≡◌, ◌+◌, ◌*◌, ◌<◌, ◌≤◌, length};
 
 use libc::STDOUT_FILENO;
