@@ -25,11 +25,11 @@ module _ (op : ℕ → ℕ → ℕ) (half : (x y : ℕ) → op x y / 2 ≡ op (x
 pub bit-and : (i x y : ℕ) → bit i (bit_and x y) ≡ bit_and (bit i x) (bit i y)
 bit-and = bit-of bit_and (λ x y. and_shr x y 1) (λ x y. and_mod x y 1)
 
-pub bit_or : (i x y : ℕ) → bit i (bit_or x y) ≡ bit_or (bit i x) (bit i y)
-bit_or = bit-of bit_or (λ x y. or_shr x y 1) (λ x y. or_mod x y 1)
+pub bit-or : (i x y : ℕ) → bit i (bit_or x y) ≡ bit_or (bit i x) (bit i y)
+bit-or = bit-of bit_or (λ x y. or_shr x y 1) (λ x y. or_mod x y 1)
 
-pub bit_xor : (i x y : ℕ) → bit i (bit_xor x y) ≡ bit_xor (bit i x) (bit i y)
-bit_xor = bit-of bit_xor (λ x y. xor_shr x y 1) (λ x y. xor_mod x y 1)
+pub bit-xor : (i x y : ℕ) → bit i (bit_xor x y) ≡ bit_xor (bit i x) (bit i y)
+bit-xor = bit-of bit_xor (λ x y. xor_shr x y 1) (λ x y. xor_mod x y 1)
 
 pub bit_not : (k i x : ℕ) → x < 2 ^ k → i < k → bit i (2 ^ k - 1 - x) ≡ 1 - bit i x
 unfolding bit
@@ -81,7 +81,7 @@ module _ (x y z : ℕ) where
 
     ch-bits : x < 2 ^ 32 → i < 32 → bit i (Ch x y z) ≡ ch₁ (bit i x) (bit i y) (bit i z)
     ch-bits p h =
-        bit_xor i _ _ ∙ ap₂ bit_xor (bit-and i x y) (bit-and i (not x) z ∙ ap (λ (n : ℕ). bit_and n (bit i z)) (bit_not 32 i x p h))
+        bit-xor i _ _ ∙ ap₂ bit_xor (bit-and i x y) (bit-and i (not x) z ∙ ap (λ (n : ℕ). bit_and n (bit i z)) (bit_not 32 i x p h))
 
     -- FIPS 180-4 4.1.2: where a bit of x is set Ch has y's, else z's
     pub ch-bit : x < 2 ^ 32 → i < 32 → bit i (Ch x y z) ≡ pick (eqb (bit i x) 1) (bit i y) (bit i z)
@@ -91,29 +91,29 @@ module _ (x y z : ℕ) where
     -- Maj has the bit that two of the three have, and Parity whether one or all have it
     pub maj-bit : bit i (Maj x y z) ≡ (bit i x + bit i y + bit i z) / 2
     maj-bit =
-        bit_xor i _ _ ∙ ap₂ bit_xor (bit_xor i _ _ ∙ ap₂ bit_xor (bit-and i x y) (bit-and i x z)) (bit-and i y z)
+        bit-xor i _ _ ∙ ap₂ bit_xor (bit-xor i _ _ ∙ ap₂ bit_xor (bit-and i x y) (bit-and i x z)) (bit-and i y z)
         ∙ at-bit (λ a b c. Maj a b c ≡ (a + b + c) / 2) refl refl refl refl refl refl refl refl
 
     pub parity-bit : bit i (Parity x y z) ≡ (bit i x + bit i y + bit i z) % 2
     parity-bit =
-        bit_xor i _ _ ∙ ap (λ (n : ℕ). bit_xor n (bit i z)) (bit_xor i x y)
+        bit-xor i _ _ ∙ ap (λ (n : ℕ). bit_xor n (bit i z)) (bit-xor i x y)
         ∙ at-bit (λ a b c. Parity a b c ≡ (a + b + c) % 2) refl refl refl refl refl refl refl refl
 
     -- RFC 1321 3.4: I turns y's bit over where x's is set or z's is not
     pub i-bit : z < 2 ^ 32 → i < 32 → bit i (I x y z) ≡ (bit i y + (1 - bit i z * (1 - bit i x))) % 2
     i-bit p h =
-        bit_xor i _ _ ∙ ap (bit_xor (bit i y)) (bit_or i x (not z) ∙ ap (bit_or (bit i x)) (bit_not 32 i z p h))
+        bit-xor i _ _ ∙ ap (bit_xor (bit i y)) (bit-or i x (not z) ∙ ap (bit_or (bit i x)) (bit_not 32 i z p h))
         ∙ at-bit (λ a b c. bit_xor b (bit_or a (1 - c)) ≡ (b + (1 - c * (1 - a))) % 2) refl refl refl refl refl refl refl refl
 
     fewer-bits : bit i (bit_xor z (bit_and x (bit_xor y z))) ≡ bit_xor (bit i z) (bit_and (bit i x) (bit_xor (bit i y) (bit i z)))
-    fewer-bits = bit_xor i _ _ ∙ ap (bit_xor (bit i z)) (bit-and i _ _ ∙ ap (bit_and (bit i x)) (bit_xor i y z))
+    fewer-bits = bit-xor i _ _ ∙ ap (bit_xor (bit i z)) (bit-and i _ _ ∙ ap (bit_and (bit i x)) (bit-xor i y z))
 
     f-bits : x < 2 ^ 32 → i < 32 → bit i (F x y z) ≡ bit_or (bit_and (bit i x) (bit i y)) (bit_and (1 - bit i x) (bit i z))
     f-bits p h =
-        bit_or i _ _ ∙ ap₂ bit_or (bit-and i x y) (bit-and i (not x) z ∙ ap (λ (n : ℕ). bit_and n (bit i z)) (bit_not 32 i x p h))
+        bit-or i _ _ ∙ ap₂ bit_or (bit-and i x y) (bit-and i (not x) z ∙ ap (λ (n : ℕ). bit_and n (bit i z)) (bit_not 32 i x p h))
 
     right-bits : bit i (bit_xor x (bit_xor y z)) ≡ bit_xor (bit i x) (bit_xor (bit i y) (bit i z))
-    right-bits = bit_xor i _ _ ∙ ap (bit_xor (bit i x)) (bit_xor i y z)
+    right-bits = bit-xor i _ _ ∙ ap (bit_xor (bit i x)) (bit-xor i y z)
 
   -- RFC 1321 3.4: G is F with its arguments turned
   pub g-is-f : G x y z ≡ F z x y

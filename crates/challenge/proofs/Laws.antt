@@ -15,7 +15,6 @@ use Rattle.flow.specs.Front.{front, ◌▹◌, Wrote}
 use Rattle.flow.proofs.Tables.{set_next}
 use Rattle.octets.specs.Octets.{padded}
 use Rattle.octets.proofs.Laws.{padded-front}
-use Rattle.names.proofs.Laws.{length_mapped}
 use Rattle.limits.specs.Limits.{RES_MOST, BARE, ENTRIES}
 use Rattle.line.specs.Text.{between}
 use Rattle.format.specs.Read.{Read, got, bad, and_then}
@@ -56,10 +55,10 @@ unfolding challenge_of
 xres_held v h = padded-front RES_MOST v.xres h
 
 pub challenge-rand_long : (h : Challenge) (vs : List Val) → Is (row Challenge·.the_type) h vs → length h.rand ≡ BARE
-challenge-rand_long h vs g = length_mapped (λ (v : ℕ). v) h.rand BARE g.1.1.0.1.0.1
+challenge-rand_long h vs g = g.1.1.0.1.0.1
 
 pub challenge-autn_long : (h : Challenge) (vs : List Val) → Is (row Challenge·.the_type) h vs → length h.autn ≡ BARE
-challenge-autn_long h vs g = length_mapped (λ (v : ℕ). v) h.autn BARE g.1.1.1.0.1.0.1
+challenge-autn_long h vs g = g.1.1.1.0.1.0.1
 
 -- two fields that fill a buffer are all that it holds
 pub wrote_both : (x y old new : List ℕ) (r : ℕ) → Wrote (x ▹ y) r old new → length old ≤ length x + length y → new ≡ x ++ y
