@@ -15,7 +15,7 @@ use shelves::Shelf;
 use tables::State;
 
 // Why a batch ended: more input is needed for the next event, there is no room for its line, or what stands there is no event.
-#[derive(Drop)]
+#[derive(Clone, Copy)]
 pub enum Why {
     More,
     Full,

@@ -17,7 +17,7 @@ use settings::{EntryAt, EntryRead, SettingsAt};
 
 // RAND, AUTN, XRES with zeros after it and its length, and Ks: CK, then IK.
 #[repr(C)]
-#[derive(Drop)]
+#[derive(Clone, Copy)]
 pub struct Challenge {
     pub rand: [u8; limits::BARE],
     pub autn: [u8; limits::BARE],

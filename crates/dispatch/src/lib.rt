@@ -149,7 +149,7 @@ pub fn is_its_place(event: Decoded, row: Session) -> bool
 // ---- a KEY
 
 // What a KEY asks, if the event is one: where in the body peer and FQDN, B-TID and NAF_Id stand.
-#[derive(Drop)]
+#[derive(Clone, Copy)]
 pub struct Ask {
     pub key: bool,
     pub time: u64,

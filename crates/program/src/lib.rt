@@ -17,7 +17,7 @@ use shelves::{Row, Shelf};
 
 // What stands at the front of the input so far: the opening part, with where its domain and its first row start and where it ends; the front
 // of one; or neither.
-#[derive(Drop)]
+#[derive(Clone, Copy)]
 pub enum OpeningPart {
     Whole {
         domain: usize,
@@ -33,7 +33,7 @@ pub enum OpeningPart {
 }
 
 // What stands at a place where a row is to be.
-#[derive(Drop)]
+#[derive(Clone, Copy)]
 pub enum RowRead {
     At {
         peer: usize,
@@ -50,7 +50,7 @@ pub enum RowRead {
 }
 
 // What stands where rows are to be, and where the last ends.
-#[derive(Drop)]
+#[derive(Clone, Copy)]
 pub enum Rows {
     End(usize),
     More,
@@ -58,7 +58,7 @@ pub enum Rows {
 }
 
 // What stands where an event is to be: its body, from a place up to an end.
-#[derive(Drop)]
+#[derive(Clone, Copy)]
 pub enum Frame {
     Body(usize, usize),
     More,
@@ -66,7 +66,7 @@ pub enum Frame {
 }
 
 // A row, and the place after it.
-#[derive(Drop)]
+#[derive(Clone, Copy)]
 pub struct Placed {
     pub row: Row,
     pub end: usize,

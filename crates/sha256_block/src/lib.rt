@@ -27,7 +27,7 @@ const K: [u32; ROUNDS] = [
 ];
 
 // The eight words of a hash value, and the eight working variables.
-#[derive(Drop)]
+#[derive(Clone, Copy)]
 pub struct Hash {
     pub a: u32,
     pub b: u32,

@@ -11,7 +11,7 @@ use std::num::wrapping_add_u64 as plus;
 const HEAD: usize = 18;
 
 // What reading a field finds: so many octets at the front of the buffer, the end of the file, or something else.
-#[derive(Drop)]
+#[derive(Clone, Copy)]
 enum Field {
     Octets(usize),
     End,
@@ -19,7 +19,7 @@ enum Field {
 }
 
 // How many vectors were run and how many came out equal, and whether there may be more.
-#[derive(Drop)]
+#[derive(Clone, Copy)]
 struct Tally {
     run: u64,
     equal: u64,
