@@ -8,7 +8,7 @@ use Rattle.line.specs.Number.{Octets}
 use Rattle.line.specs.Text.{text_octets}
 use Rattle.settings.specs.Table.{SETTINGS}
 use Rattle.format.specs.Format.{octets}
-use Rattle.event.specs.Values.{VectorValues, vector, on_run, EventValues}
+use Rattle.event.specs.Values.{VectorValues, vector, on_run}
 use Rattle.event.specs.Table.{NAMED, VECTOR, from_kind, from_act, EVENT, decoded}
 use Rattle.event.proofs.Trips.{event_written}
 

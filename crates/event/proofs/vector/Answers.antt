@@ -1,0 +1,14 @@
+-- The code reads the table's fields in the table's order.
+use Rattle.format.proofs.Tabled.{tabled, standing}
+use Rattle.event.proofs.Laws.{kinds, placing}
+use borrow.Author.Rules.{rules}
+use Rattle.event.proofs.vector.Goals as goal
+
+pub returns-in_default : goal.returns-in_default
+returns-in_default c = search (tabled, kinds, rules) depth 12
+
+pub returns-in_default-read_vector : goal.returns-in_default-read_vector
+returns-in_default-read_vector c = search (tabled, kinds, rules) depth 12
+
+pub returns : goal.returns
+returns c = search (tabled, kinds, placing, standing, rules) depth 12
