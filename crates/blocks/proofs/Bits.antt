@@ -128,7 +128,8 @@ module _ (x y z : ℕ) where
     pub ch-fewer : bit_xor z (bit_and x (bit_xor y z)) ≡ Ch x y z
     ch-fewer =
         same_bits 32 _ _ (xor_lt 32 _ _ r (and_lt 32 _ _ p (xor_lt 32 _ _ q r))) ch-lt
-        (λ i h. fewer-bits i ∙ at-bit i (λ a b c. bit_xor c (bit_and a (bit_xor b c)) ≡ ch₁ a b c) refl refl refl refl refl refl refl refl ∙ sym (ch-bits i p h))
+        (λ i h. fewer-bits i ∙ at-bit i (λ a b c. bit_xor c (bit_and a (bit_xor b c)) ≡ ch₁ a b c) refl refl refl refl refl refl refl refl
+        ∙ sym (ch-bits i p h))
 
     -- RFC 1321's F is FIPS 180-4's Ch: no bit is set on both sides
     pub f-is-ch : F x y z ≡ Ch x y z

@@ -26,8 +26,8 @@ use Rattle.program.specs.declared.Rows.TheVariants.{End, More as RowsMore, Bad a
 use Rattle.program.proofs.Ends.{row-all, opening-all}
 use Rattle.program.proofs.Arrived.{alike, between-kept, Stays, pick_stays, here-stays, num-stays, text-stays}
 
-row-is-read : (peer peer_end fqdn fqdn_end : ℕ) (identity : Bool) (group required end : ℕ) → RowAt peer peer_end fqdn fqdn_end identity group required end ≡ RowMore
-    → ⊥
+row-is-read : (peer peer_end fqdn fqdn_end : ℕ) (identity : Bool) (group required end : ℕ)
+    → RowAt peer peer_end fqdn fqdn_end identity group required end ≡ RowMore → ⊥
 row-is-read peer peer_end fqdn fqdn_end identity group required end e = let z : ◌≡◌ {A = ℕ} 0 1 = cc in omega arith
 
 row-is-bad : RowBad ≡ RowMore → ⊥

@@ -13,7 +13,6 @@ use Rattle.flow.specs.Search.{first}
 use Rattle.flow.specs.declared.Found.TheVariants.{At, Nothing}
 use Rattle.flow.proofs.Searches.{first-same}
 use Rattle.flow.proofs.Tables.{passed, missed, none_found, put_all, put_pairs, put-inside, set-map}
-use Rattle.octets.specs.Octets.{same}
 use Rattle.octets.proofs.Laws.{sides}
 use Rattle.records.specs.Rows.{no_run, is_open, is_run, is_other}
 use Rattle.records.specs.declared.Run.{Run}

@@ -2,12 +2,11 @@
 -- session that is put where place_for says stands at some place, with every other live session but the student's own, and nothing else does.
 use Prim.Native.Nat.{ℕ, ◌<◌}
 use native.Mathlib.Omega.{arith}
-use mathlib.Core.Path.{◌≡◌, refl, sym, ap, subst, ◌∙◌}
+use mathlib.Core.Path.{◌≡◌, refl, sym, ap, ◌∙◌}
 use mathlib.Core.Logic.{◌≢◌, ⊎_elim}
-use mathlib.Core.Bool.{Bool, true, false, not, ◌&&◌, true≢false}
+use mathlib.Core.Bool.{Bool, true, false, ◌&&◌, true≢false}
 use mathlib.Core.List.{List, map}
-use lib.Dec.{eqb, ltb}
-use lib.ListN.{length, get_or, replicate, length-set, length-replicate}
+use lib.ListN.{length, get_or, length-set, length-replicate}
 use borrow.Author.Tests.{le-ltb, not-true, not-false}
 use Rattle.limits.specs.Limits.{SESSIONS}
 use Rattle.flow.specs.Search.{first, or_else}
@@ -16,10 +15,6 @@ use Rattle.flow.specs.declared.Found.TheVariants.{At, Nothing}
 use Rattle.flow.proofs.Choices.{split}
 use Rattle.flow.proofs.Searches.{first-same}
 use Rattle.flow.proofs.Tables.{passed, missed, put_all, put_pairs, put-inside, set-map}
-use Rattle.octets.specs.Octets.{same}
-use Rattle.octets.proofs.Laws.{and_left, and_right, same-equal}
-use Rattle.names.specs.Name.{name_octets}
-use Rattle.btid.specs.Btid.{btid}
 use Rattle.records.specs.Rows.{no_session, is_live, is_own, has_rand}
 use Rattle.records.specs.declared.Session.{Session}
 use Rattle.tables.specs.Tables.{no_sessions, session_in, own_of, rand_of, is_named, named_of, is_over, place_for, put_session, Has, WholeSessions, map_sessions}

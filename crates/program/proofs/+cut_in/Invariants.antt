@@ -1,0 +1,5 @@
+-- The code takes the definition's own steps; the measure is how many octets the number may still have.
+use Rattle.program.proofs.+cut_in.Given as goal
+
+abbrev pub decreases-cut_in : goal.decreases-cut_in
+decreases-cut_in l = l.k

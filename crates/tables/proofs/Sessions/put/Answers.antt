@@ -1,0 +1,19 @@
+-- A store within the table; past it nothing is stored.
+use mathlib.Core.Path.{◌≡◌}
+use lib.ListN.{set}
+use lib.Seq.{set_out}
+use Rattle.tables.proofs.Laws.{sessions-long}
+use Rattle.tables.specs.Tables.{put_session}
+use native.Mathlib.Omega.{arith}
+use borrow.Author.Rules.{rules}
+use Rattle.tables.proofs.Sessions.put.Goals as goal
+
+pub returns-then-i-ge-SESSIONS : goal.returns-then-i-ge-SESSIONS
+unfolding put_session
+returns-then-i-ge-SESSIONS c =
+    let e : set c.args.self.rows c.args.i c.args.row ≡ c.args.self.rows = set_out _ _ _ (omega (arith, sessions-long c.args.self _ c.well_formed.0)) in
+    rw e
+
+pub returns : goal.returns
+unfolding put_session
+returns c = search rules
