@@ -2,11 +2,13 @@
 // as soon as the event has arrived. What is read, answered and printed is said in the crates program and batch; here is the input and output.
 #![tactic(auto)]
 
-ghost use Rattle.std.specs.Prelude.{◌≡◌, ◌-◌, ◌≤◌, length, take, drop};
+ghost use Rattle.std.specs.Prelude.{◌≡◌, ◌-◌, ◌≤◌, IfOk, length, take, drop};
 
 use batch::Why;
 use program::OpeningPart;
 use shelves::Shelf;
+use std::io;
+use std::io::{Read, Write};
 use tables::State;
 
 // The octets of the input and of the output that are held: more than the longest opening part, the longest event with its length, and the longest
@@ -17,13 +19,12 @@ const SIZE: usize = 65536;
 const EVENTS: u64 = 9223372036854775808;
 
 // Reads once, after what is held. Returns how much is held then: no more than before where the input has ended.
-fn fill(input: &mut [u8], held: usize) -> usize
+fn fill(rt: &HostRuntime, input: &mut [u8], held: usize) -> io::Result<usize>
     requires { held ≤ length input.old }
-    ensures { (held ≤ result) × (result ≤ length input.old) }
+    ensures { IfOk result (λ more. (held ≤ more) × (more ≤ length input.old)) }
 {
-    let rest = &mut input[held..];
-    let got = libc::read(libc::STDIN_FILENO, rest);
-    held + io::count(got, rest)
+    let got = rt.stdin().read(&mut input[held..])?;
+    Ok(held + got)
 }
 
 // Moves what is held from a place on to the front, and returns how much that is.
@@ -50,45 +51,59 @@ fn is_cut(input: &[u8]) -> bool {
 }
 
 // Reads until the opening part is whole or bad, or the input ends. Returns how much is held then.
-fn begin(input: &mut [u8]) -> usize
-    ensures { result ≤ length input.old }
+fn begin(rt: &HostRuntime, input: &mut [u8]) -> io::Result<usize>
+    ensures { IfOk result (λ held. held ≤ length input.old) }
 {
     let mut held: usize = 0;
     while is_cut(&input[..held]) {
-        let more = fill(input, held);
+        let more = fill(rt, input, held)?;
         if more == held {
-            return held;
+            return Ok(held);
         }
         held = more;
     }
-    held
+    Ok(held)
 }
 
 // Prints a line with no answer.
-fn print_refused(place: u64, number: u32) {
+fn print_refused(rt: &HostRuntime, place: u64, number: u32) -> io::Result<()> {
     let mut line = [0u8; limits::LINE];
     let len = program::put_line(&mut line, place, number, &[]);
-    io::write_all(libc::STDOUT_FILENO, &line[..len]);
+    rt.stdout().write_all(&line[..len])
 }
 
 // Moves what is left to the front, and reads on. Returns how much is held then: 0 where the input has ended, and a cut event has its line.
-fn read_on(input: &mut [u8], from: usize, held: usize, place: u64) -> usize
+fn read_on(
+    rt: &HostRuntime,
+    input: &mut [u8],
+    from: usize,
+    held: usize,
+    place: u64,
+) -> io::Result<usize>
     requires { (from ≤ held) × (held ≤ length input.old) }
-    ensures { result ≤ length input.old }
+    ensures { IfOk result (λ more. more ≤ length input.old) }
 {
     let rest = shift(input, from, held);
-    let more = fill(input, rest);
+    let more = fill(rt, input, rest)?;
     if more == rest {
         if 0 < rest {
-            print_refused(place, flow::FORM);
+            print_refused(rt, place, flow::FORM)?;
         }
-        return 0;
+        return Ok(0);
     }
-    more
+    Ok(more)
 }
 
 // Answers events until the input ends, or what stands there is no event.
-fn run(state: State, shelf: Shelf, input: &mut [u8], out: &mut [u8], from: usize, first: usize)
+fn run(
+    rt: &HostRuntime,
+    state: State,
+    shelf: Shelf,
+    input: &mut [u8],
+    out: &mut [u8],
+    from: usize,
+    first: usize,
+) -> io::Result<()>
     requires { (from ≤ first) × (first ≤ length input.old) × (length input.old ≤ 65536) }
 {
     let mut state = state;
@@ -98,36 +113,35 @@ fn run(state: State, shelf: Shelf, input: &mut [u8], out: &mut [u8], from: usize
     let mut turns = u64::MAX;
     while turns > 0 {
         if EVENTS < place {
-            return;
+            return Ok(());
         }
         let done = batch::serve(state, shelf, &input[..held], at, place, out);
         let len = done.len;
-        if !io::write_all(libc::STDOUT_FILENO, &out[..len]) {
-            return;
-        }
+        rt.stdout().write_all(&out[..len])?;
         state = done.state;
         at = done.at;
         place = done.place;
         let why = done.why;
         match why {
-            Why::Bad => return,
+            Why::Bad => return Ok(()),
             Why::Full => {}
             Why::More => {
-                held = read_on(input, at, held, place);
+                held = read_on(rt, input, at, held, place)?;
                 at = 0;
                 if held == 0 {
-                    return;
+                    return Ok(());
                 }
             }
         }
         turns -= 1;
     }
+    Ok(())
 }
 
-fn main() {
+fn main(rt: HostRuntime) -> io::Result<()> {
     let mut input = [0u8; SIZE];
     let mut out = [0u8; SIZE];
-    let held = begin(&mut input);
+    let held = begin(&rt, &mut input)?;
     let OpeningPart::Whole {
         domain,
         domain_end,
@@ -138,15 +152,12 @@ fn main() {
         end,
     } = program::read_opening(&input[..held])
     else {
-        print_refused(0, flow::NOT_OPEN);
-        return;
+        return print_refused(&rt, 0, flow::NOT_OPEN);
     };
     let shelf = program::shelf_of(&input[..held], rows, at);
     let opened = opening::open(shelves::part(&input, domain, domain_end), restart, lifetime);
     if opened.no != 0 {
-        print_refused(0, opened.no);
-        return;
+        return print_refused(&rt, 0, opened.no);
     }
-    let state = opened.state;
-    run(state, shelf, &mut input, &mut out, end, held);
+    run(&rt, opened.state, shelf, &mut input, &mut out, end, held)
 }
