@@ -1,5 +1,5 @@
 //! Links the static library of the key server: from the directory that PAGERUDDER_LIB names, or from where
-//! `rt staticlib exports` writes it in this repository.
+//! `tools/build exports` writes it in this repository.
 use std::path::PathBuf;
 use std::{env, process};
 
@@ -14,7 +14,7 @@ fn main() {
     println!("cargo:rerun-if-changed={}", archive.display());
     if !archive.is_file() {
         eprintln!("pagerudder: {} is missing.", archive.display());
-        eprintln!("Run `rt staticlib exports` at the root of the repository: it proves the server and writes the library there.");
+        eprintln!("Run `tools/build exports` at the root of the repository: it proves the server and writes the library there.");
         eprintln!("Or set PAGERUDDER_LIB to the directory that has libexports.a.");
         process::exit(1);
     }

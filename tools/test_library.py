@@ -1,5 +1,5 @@
 #!/usr/bin/env python3
-"""Tests of the static library, after `rt staticlib exports`: its header in C and in C++, the clients in C and in Rust, and how the structs that it
+"""Tests of the static library, after `tools/build exports`: its header in C and in C++, the clients in C and in Rust, and how the structs that it
 shares with them lie in memory."""
 
 import os

@@ -1,5 +1,5 @@
 -- A KEY: what it asks stands in its body, and its rule is the one of its values.
-use Prim.Native.Nat.{ℕ, ◌+◌, ◌-◌, ◌≤◌, ◌<◌}
+use Prim.Native.Nat.{ℕ, ◌+◌, ◌-◌, ◌≤◌}
 use native.Mathlib.Omega.{arith}
 use mathlib.Core.Path.{◌≡◌, refl, sym, ap, subst, subst⁻¹, ◌∙◌}
 use mathlib.Core.Bool.{Bool, true, false, true≢false}
@@ -8,7 +8,7 @@ use mathlib.Core.Option.{Option}
 use lib.Dec.{ltb}
 use lib.ListN.{length, take, drop, length-take, length-drop}
 use lib.Seq.{take-take}
-use Rattle.limits.specs.Limits.{NAME, UA, SESSIONS, ROOM}
+use Rattle.limits.specs.Limits.{UA, SESSIONS, ROOM}
 use Rattle.flow.specs.Choice.{pick}
 use Rattle.flow.specs.Refusals.{CLOCK}
 use Rattle.flow.specs.Result.{◌>>◌, refuse}

@@ -1,14 +1,14 @@
 -- What is known of a part of an event is known of the event; and the rule of an event is the rule of its kind.
-use Prim.Native.Nat.{ℕ, ◌+◌, ◌-◌, ◌≤◌}
+use Prim.Native.Nat.{ℕ, ◌-◌, ◌≤◌}
 use native.Mathlib.Omega.{arith}
 use mathlib.Core.Path.{◌≡◌, refl, sym, ap, subst, ◌∙◌}
 use mathlib.Core.Logic.{⊎_elim}
 use mathlib.Core.Bool.{Bool, true, false, true≢false}
 use mathlib.Core.List.{List}
 use lib.Dec.{eqb, leb, ltb}
-use lib.ListN.{length, take, length-take, length-drop}
-use borrow.Author.Tests.{leb-false, eqb-true, le-ltb}
-use Rattle.limits.specs.Limits.{UA, BARE, RUNS, SESSIONS, ROOM}
+use lib.ListN.{length, length-take, length-drop}
+use borrow.Author.Tests.{leb-false, eqb-true}
+use Rattle.limits.specs.Limits.{UA, RUNS, SESSIONS, ROOM}
 use Rattle.flow.specs.Choice.{pick}
 use Rattle.flow.specs.Ends.{Ends}
 use Rattle.flow.specs.Refusals.{NOT_OPEN, SHORT, FORM, CLOCK}
@@ -17,19 +17,14 @@ use Rattle.flow.specs.Search.{or_else}
 use Rattle.flow.proofs.Choices.{split}
 use Rattle.flow.proofs.Chains.{passes-set, passes-above}
 use Rattle.octets.specs.Octets.{least}
-use Rattle.names.specs.Name.{name_octets}
 use Rattle.line.specs.Text.{between, Inside}
-use Rattle.settings.specs.Values.{SettingsValues, not_given, as_before, given}
+use Rattle.settings.specs.Values.{not_given, as_before, given}
 use Rattle.settings.specs.Meaning.{BEFORE_OCTET, given_means, settings_means}
 use Rattle.settings.specs.declared.SettingsAt.{SettingsAt}
-use Rattle.event.specs.Values.{EventValues}
-use Rattle.event.specs.Meaning.{start_means, vector_means, act_means, run_means, kind_means, values_at, meaning}
-use Rattle.event.specs.Placed.{StartPlaced, VectorPlaced, ActPlaced, RunPlaced, KeyPlaced, KindPlaced, EventPlaced, Placed}
+use Rattle.event.specs.Meaning.{kind_means, meaning}
+use Rattle.event.specs.Placed.{ActPlaced, KindPlaced, EventPlaced, Placed}
 use Rattle.event.specs.declared.StartAt.{StartAt}
-use Rattle.event.specs.declared.VectorAt.{VectorAt}
-use Rattle.event.specs.declared.ResponseAt.{ResponseAt}
 use Rattle.event.specs.declared.ActAt.{ActAt}
-use Rattle.event.specs.declared.ActAt.TheVariants.{Vector, Response, Abort}
 use Rattle.event.specs.declared.RunAt.{RunAt}
 use Rattle.event.specs.declared.KeyAt.{KeyAt}
 use Rattle.event.specs.declared.KindAt.{KindAt}
@@ -38,12 +33,11 @@ use Rattle.event.specs.declared.EventAt.{EventAt}
 use Rattle.event.specs.declared.Decoded.{Decoded}
 use Rattle.event.specs.declared.Decoded.TheVariants.{Event, Bad}
 use Rattle.shelves.specs.declared.Policy.{Policy}
-use Rattle.tables.specs.Tables.{first_run, run_of, free_run, other_of, first_session, own_of, rand_of, place_for}
+use Rattle.tables.specs.Tables.{first_run, run_of, free_run, first_session, own_of}
 use Rattle.tables.specs.declared.State.{State}
 use Rattle.outcome.specs.Outcome.{Done}
 use Rattle.outcome.specs.declared.Seen.{Seen}
-use Rattle.rules.specs.Start.{start_rule}
-use Rattle.rules.specs.Server.{run_rule, kind_rule, rule, step_of}
+use Rattle.rules.specs.Server.{kind_rule, rule, step_of}
 use Rattle.vector.specs.Turns.{is_before}
 use Rattle.dispatch.specs.Seeks.{run_sought, seeks_run, other_for, other_sought, seeks_other, session_for, session_sought, seeks_session, place_of, place_sought, seeks_place}
 use Rattle.dispatch.specs.Turns.{ask_by, ask_of, Looks}
