@@ -19,7 +19,8 @@ returns-else-starts c =
     let k : Fits w8 (get_or c.args.session.rand 0 0) = search rules in
     let l : Fits w8 (get_or c.args.session.rand 1 0) = search rules in
     let b = is_live c.args.time c.args.session in
-    let h = starts_otherwise _ _ _ (session-rand_long c.args.session _ c.well_formed.0) (omega arith) (omega arith) (sym c.starts.ensures ∙ c.if-starts.false) in
+    let n = session-rand_long c.args.session _ c.well_formed.0 in
+    let h = starts_otherwise _ _ _ n (omega arith) (omega arith) (sym c.starts.ensures ∙ c.if-starts.false) in
     sym (and-false b) ∙ ap (λ (o : Bool). b && o) h
 
 pub returns-then-session-time : goal.returns-then-session-time
