@@ -2,13 +2,19 @@
 // were run and how many came out equal. data/README.md says where the files come from and how they are laid out.
 #![tactic(auto)]
 
-ghost use Rattle.std.specs.Prelude.{◌≡◌, ◌+◌, ◌*◌, ◌<◌, ◌≤◌, length};
+ghost use Rattle.std.specs.Prelude.{◌≡◌, ◌+◌, ◌*◌, ◌<◌, ◌≤◌, length, IfOk};
 
-use libc::STDOUT_FILENO;
+use std::fs::File;
+use std::io;
+use std::io::{Eprint, Print, Read};
 use std::num::wrapping_add_u64 as plus;
+use std::rt::Files;
 
 // The octets of a field's first line.
 const HEAD: usize = 18;
+
+// Room for the longest line of hex.
+const LINE: usize = 65536;
 
 // What reading a field finds: so many octets at the front of the buffer, the end of the file, or something else.
 #[derive(Clone, Copy)]
@@ -41,30 +47,27 @@ impl Tally {
     }
 
     // One vector more; one that differs is named on a line of its own.
-    fn count(mut self, is_equal: bool) -> Self {
+    fn count(mut self, rt: &impl Print, is_equal: bool) -> io::Result<Self> {
         self.run = plus(self.run, 1);
         if is_equal {
             self.equal = plus(self.equal, 1);
         } else {
-            io::write_all(STDOUT_FILENO, b"differs: ");
-            io::print_decimal(STDOUT_FILENO, self.run);
-            io::write_all(STDOUT_FILENO, b"\n");
+            let run = self.run;
+            println!(rt; "differs: {run}")?;
         }
-        self
+        Ok(self)
     }
 
     // A file that is not as it should be: one vector that differs, and no more.
-    fn bad(self) -> Self {
-        self.count(false).ended()
+    fn bad(self, rt: &impl Print) -> io::Result<Self> {
+        let counted = self.count(rt, false)?;
+        Ok(counted.ended())
     }
 
-    fn report(self, name: &[u8]) {
-        io::write_all(STDOUT_FILENO, name);
-        io::write_all(STDOUT_FILENO, b": ");
-        io::print_decimal(STDOUT_FILENO, self.run);
-        io::write_all(STDOUT_FILENO, b" run, ");
-        io::print_decimal(STDOUT_FILENO, self.equal);
-        io::write_all(STDOUT_FILENO, b" equal\n");
+    fn report(self, rt: &impl Print, name: &str) -> io::Result<()> {
+        let run = self.run;
+        let equal = self.equal;
+        println!(rt; "{name}: {run} run, {equal} equal")
     }
 }
 
@@ -114,32 +117,47 @@ fn repeat(out: &mut [u8], n: usize, end: usize)
     }
 }
 
+// Fills buf, as far as the file goes, and says how many octets were read.
+fn read_full(file: &mut File, buf: &mut [u8]) -> io::Result<usize>
+    ensures { IfOk result (λ n. n ≤ length buf.new) }
+{
+    let mut at: usize = 0;
+    while at < buf.len() {
+        let got = file.read(&mut buf[at..])?;
+        if got == 0 {
+            return Ok(at);
+        }
+        at += got;
+    }
+    Ok(at)
+}
+
 // Reads a field into out: how often, how many octets, and the octets in hex, by way of line.
-fn read_field(fd: i32, line: &mut [u8], out: &mut [u8]) -> Field {
+fn read_field(file: &mut File, line: &mut [u8], out: &mut [u8]) -> io::Result<Field> {
     let mut head = [0u8; HEAD];
-    let got = io::read_full(fd, &mut head);
+    let got = read_full(file, &mut head)?;
     if got == 0 {
-        return Field::End;
+        return Ok(Field::End);
     }
     let times = number(&head, 0);
     let n = number(&head, 9);
     let size = 2 * n + 1;
     if line.len() < size {
-        return Field::Bad;
+        return Ok(Field::Bad);
     }
-    if io::read_full(fd, &mut line[..size]) < size {
-        return Field::Bad;
+    if read_full(file, &mut line[..size])? < size {
+        return Ok(Field::Bad);
     }
     let end = times * n;
     if out.len() < n {
-        return Field::Bad;
+        return Ok(Field::Bad);
     }
     if out.len() < end {
-        return Field::Bad;
+        return Ok(Field::Bad);
     }
     unhex(line, out, n);
     repeat(out, n, end);
-    Field::Octets(end)
+    Ok(Field::Octets(end))
 }
 
 // Whether a and b start with the same n octets.
@@ -150,7 +168,7 @@ fn start_same(a: &[u8], b: &[u8], n: usize) -> bool {
     if b.len() < n {
         return false;
     }
-    check::same(&a[..n], &b[..n])
+    octets::same(&a[..n], &b[..n])
 }
 
 // Whether the digest of the first n octets of m is what is wanted.
@@ -160,7 +178,7 @@ fn digests(m: &[u8], n: usize, want: &[u8]) -> bool {
     }
     let mut got = [0u8; 32];
     let r = sha256::sha256(&m[..n], &mut got);
-    r.no == 0 && check::same(&got, want)
+    r.no == 0 && octets::same(&got, want)
 }
 
 // Whether the code of a text under a key starts with the w octets that are wanted.
@@ -197,7 +215,7 @@ fn chain(seed: &mut [u8])
 {
     let mut space = [0u8; 96];
     let m: &mut [u8] = &mut space;
-    bytes::copy(seed, m);
+    m[..32].copy_from_slice(seed);
     repeat(m, 32, 96);
     let mut i: usize = 0;
     while i < 1000 {
@@ -208,92 +226,118 @@ fn chain(seed: &mut [u8])
 }
 
 // A vector of SHA-256: a message, and its digest.
-fn sha256_vector(fd: i32, line: &mut [u8], m: &mut [u8], t: Tally) -> Tally {
-    let Field::Octets(n) = read_field(fd, line, m) else {
-        return t.ended();
+fn sha256_vector(
+    rt: &impl Print,
+    file: &mut File,
+    line: &mut [u8],
+    m: &mut [u8],
+    t: Tally,
+) -> io::Result<Tally> {
+    let Field::Octets(n) = read_field(file, line, m)? else {
+        return Ok(t.ended());
     };
     let mut want = [0u8; 32];
-    let Field::Octets(_) = read_field(fd, line, &mut want) else {
-        return t.bad();
+    let Field::Octets(_) = read_field(file, line, &mut want)? else {
+        return t.bad(rt);
     };
-    t.count(digests(m, n, &want))
+    t.count(rt, digests(m, n, &want))
 }
 
 // A vector of the Monte Carlo test: the digest a thousand on from the one before.
-fn monte_vector(fd: i32, line: &mut [u8], seed: &mut [u8], t: Tally) -> Tally
+fn monte_vector(
+    rt: &impl Print,
+    file: &mut File,
+    line: &mut [u8],
+    seed: &mut [u8],
+    t: Tally,
+) -> io::Result<Tally>
     requires { length seed.old ≡ 32 }
 {
     let mut want = [0u8; 32];
-    let Field::Octets(_) = read_field(fd, line, &mut want) else {
-        return t.ended();
+    let Field::Octets(_) = read_field(file, line, &mut want)? else {
+        return Ok(t.ended());
     };
     chain(seed);
-    t.count(check::same(seed, &want))
+    t.count(rt, octets::same(seed, &want))
 }
 
 // A vector of HMAC: a key, a text, and the code or its first octets.
-fn hmac_vector(fd: i32, line: &mut [u8], text: &mut [u8], t: Tally) -> Tally {
+fn hmac_vector(
+    rt: &impl Print,
+    file: &mut File,
+    line: &mut [u8],
+    text: &mut [u8],
+    t: Tally,
+) -> io::Result<Tally> {
     let mut key = [0u8; 256];
-    let Field::Octets(n) = read_field(fd, line, &mut key) else {
-        return t.ended();
+    let Field::Octets(n) = read_field(file, line, &mut key)? else {
+        return Ok(t.ended());
     };
-    let Field::Octets(k) = read_field(fd, line, text) else {
-        return t.bad();
+    let Field::Octets(k) = read_field(file, line, text)? else {
+        return t.bad(rt);
     };
     let mut want = [0u8; 32];
-    let Field::Octets(w) = read_field(fd, line, &mut want) else {
-        return t.bad();
+    let Field::Octets(w) = read_field(file, line, &mut want)? else {
+        return t.bad(rt);
     };
-    t.count(codes(&key, n, text, k, &want, w))
+    t.count(rt, codes(&key, n, text, k, &want, w))
 }
 
-// A file to read; where it cannot be opened, that is said, and nothing is read.
-fn open(name: &[u8]) -> i32 {
-    let fd = os::open_read(name);
-    if fd < 0 {
-        os::fail(name);
+// A file to read; where it cannot be opened, that is said.
+fn open<R: Files<File = File> + Eprint>(rt: &R, name: &str) -> io::Result<File> {
+    match File::open(rt, name) {
+        Ok(file) => Ok(file),
+        Err(error) => {
+            eprintln!(rt; "{name}: {error}")?;
+            Err(error)
+        }
     }
-    fd
 }
 
 // All vectors of a file, at most a million.
-fn sha256_file(name: &[u8], line: &mut [u8], m: &mut [u8]) {
-    let fd = open(name);
+fn sha256_file(
+    rt: &impl Print,
+    mut file: File,
+    name: &str,
+    line: &mut [u8],
+    m: &mut [u8],
+) -> io::Result<()> {
     let mut t = Tally::new();
     let mut turns: usize = 1000000;
     while 0 < turns && t.more {
-        t = sha256_vector(fd, line, m, t);
+        t = sha256_vector(rt, &mut file, line, m, t)?;
         turns -= 1;
     }
-    t.report(name);
-    libc::close(fd);
+    t.report(rt, name)
 }
 
-fn monte_file(name: &[u8], line: &mut [u8]) {
-    let fd = open(name);
+fn monte_file(rt: &impl Print, mut file: File, name: &str, line: &mut [u8]) -> io::Result<()> {
     let mut space = [0u8; 32];
     let seed: &mut [u8] = &mut space;
-    read_field(fd, line, seed);
+    read_field(&mut file, line, seed)?;
     let mut t = Tally::new();
     let mut turns: usize = 1000000;
     while 0 < turns && t.more {
-        t = monte_vector(fd, line, seed, t);
+        t = monte_vector(rt, &mut file, line, seed, t)?;
         turns -= 1;
     }
-    t.report(name);
-    libc::close(fd);
+    t.report(rt, name)
 }
 
-fn hmac_file(name: &[u8], line: &mut [u8], m: &mut [u8]) {
-    let fd = open(name);
+fn hmac_file(
+    rt: &impl Print,
+    mut file: File,
+    name: &str,
+    line: &mut [u8],
+    m: &mut [u8],
+) -> io::Result<()> {
     let mut t = Tally::new();
     let mut turns: usize = 1000000;
     while 0 < turns && t.more {
-        t = hmac_vector(fd, line, m, t);
+        t = hmac_vector(rt, &mut file, line, m, t)?;
         turns -= 1;
     }
-    t.report(name);
-    libc::close(fd);
+    t.report(rt, name)
 }
 
 // Room for the longest message.
@@ -314,23 +358,27 @@ fn is_base64(s: &[u8], text: &[u8]) -> bool {
 }
 
 // RFC 3548, section 7: its own examples.
-fn base64_examples() {
-    let three = Tally::new()
-        .count(is_base64(b"\x14\xfb\x9c\x03\xd9\x7e", b"FPucA9l+"))
-        .count(is_base64(b"\x14\xfb\x9c\x03\xd9", b"FPucA9k="))
-        .count(is_base64(b"\x14\xfb\x9c\x03", b"FPucAw=="));
-    three.report(b"RFC3548");
+fn base64_examples(rt: &impl Print) -> io::Result<()> {
+    let one = Tally::new().count(rt, is_base64(b"\x14\xfb\x9c\x03\xd9\x7e", b"FPucA9l+"))?;
+    let two = one.count(rt, is_base64(b"\x14\xfb\x9c\x03\xd9", b"FPucA9k="))?;
+    let three = two.count(rt, is_base64(b"\x14\xfb\x9c\x03", b"FPucAw=="))?;
+    three.report(rt, "RFC3548")
 }
 
-fn main() {
-    let mut hex = io::large_buffer();
+fn main(rt: HostRuntime) -> io::Result<()> {
+    let mut hex = [0u8; LINE];
     let line: &mut [u8] = &mut hex;
     let mut space = room();
     let m: &mut [u8] = &mut space;
-    sha256_file(b"SHA256ShortMsg", line, m);
-    sha256_file(b"SHA256LongMsg", line, m);
-    sha256_file(b"SHA256Examples", line, m);
-    monte_file(b"SHA256Monte", line);
-    hmac_file(b"RFC4231", line, m);
-    base64_examples();
+    let short = open(&rt, "SHA256ShortMsg")?;
+    sha256_file(&rt, short, "SHA256ShortMsg", line, m)?;
+    let long = open(&rt, "SHA256LongMsg")?;
+    sha256_file(&rt, long, "SHA256LongMsg", line, m)?;
+    let examples = open(&rt, "SHA256Examples")?;
+    sha256_file(&rt, examples, "SHA256Examples", line, m)?;
+    let monte = open(&rt, "SHA256Monte")?;
+    monte_file(&rt, monte, "SHA256Monte", line)?;
+    let codes = open(&rt, "RFC4231")?;
+    hmac_file(&rt, codes, "RFC4231", line, m)?;
+    base64_examples(&rt)
 }

@@ -11,7 +11,8 @@ use Rattle.sha256.proofs.finish.Given as goal
 abbrev pub invariant-loop-i : goal.invariant-loop-i
 invariant-loop-i l =
     (l.whole ≤ l.i) × (l.i ≤ l.count)
-    × ((x : Hash) → l.initial.s ≡ blocks compress_of x (l.m ++ padding HighFirst l.n) l.initial.i → l.s ≡ blocks compress_of x (l.m ++ padding HighFirst l.n) l.i)
+    × ((x : Hash) → l.initial.s ≡ blocks compress_of x (l.m ++ padding HighFirst l.n) l.initial.i
+    → l.s ≡ blocks compress_of x (l.m ++ padding HighFirst l.n) l.i)
 
 abbrev pub decreases-loop-i : goal.decreases-loop-i
 decreases-loop-i l = l.count - l.i
