@@ -20,7 +20,7 @@ loop-i-preserved c =
     let b = c.args.b.now in (
       omega arith,
       elim c.if-a-i.branch [
-          then-a-i w ↦ same_differs a b c.loop-i.i (omega arith) (omega arith) c.loop-i.alike c.if-a-i.alike c.loop-i.invariant.1 w.if-a-i.true w.alike-is
+        | then-a-i w ↦ same_differs a b c.loop-i.i (omega arith) (omega arith) c.loop-i.alike c.if-a-i.alike c.loop-i.invariant.1 w.if-a-i.true w.alike-is
         | else-a-i w ↦ same_agrees a b c.loop-i.i (omega arith) (omega arith) c.loop-i.alike c.if-a-i.alike c.loop-i.invariant.1 w.if-a-i.false w.alike-is
       ],
     )
