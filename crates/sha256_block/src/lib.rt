@@ -7,7 +7,7 @@ ghost use Rattle.blocks.specs.Schedule.{WORDS, back, Scheduled};
 ghost use Rattle.blocks.specs.Blocks.{BLOCK, blocks};
 ghost use Rattle.sha256_block.specs.declared.Hash.{Hash};
 ghost use Rattle.sha256_block.specs.Words.{Σ0, Σ1, σ0, σ1, K as Ks};
-ghost use Rattle.sha256_block.specs.Compress.{ROUNDS, mixed, W, round_of, rounds, sum_of, compress_of};
+ghost use Rattle.sha256_block.specs.Compress.{ROUNDS as ROUND_COUNT, mixed, W, round_of, rounds, sum_of, compress_of};
 
 use std::num::wrapping_add_u32 as plus;
 
@@ -77,7 +77,7 @@ fn small1(x: u32) -> u32
 
 // The word t of the message schedule, from those before it.
 fn next(w: &[u32; ROUNDS], t: usize) -> u32
-    requires { (WORDS ≤ t) × (t < ROUNDS) }
+    requires { (WORDS ≤ t) × (t < ROUND_COUNT) }
     ensures { result ≡ mixed (back w.now t) }
 {
     plus(
@@ -88,8 +88,8 @@ fn next(w: &[u32; ROUNDS], t: usize) -> u32
 
 // One word more of the schedule.
 fn grow(w: &mut [u32; ROUNDS], t: usize)
-    requires { (WORDS ≤ t) × (t < ROUNDS) }
-    ensures { (M : ℕ → ℕ) → Scheduled ROUNDS M mixed t w.old → Scheduled ROUNDS M mixed (t + 1) w.new }
+    requires { (WORDS ≤ t) × (t < ROUND_COUNT) }
+    ensures { (M : ℕ → ℕ) → Scheduled ROUND_COUNT M mixed t w.old → Scheduled ROUND_COUNT M mixed (t + 1) w.new }
 {
     let x = next(w, t);
     w[t] = x;
@@ -97,8 +97,8 @@ fn grow(w: &mut [u32; ROUNDS], t: usize)
 
 // Eight words more.
 fn grow8(w: &mut [u32; ROUNDS], t: usize)
-    requires { (WORDS ≤ t) × (t + 8 ≤ ROUNDS) }
-    ensures { (M : ℕ → ℕ) → Scheduled ROUNDS M mixed t w.old → Scheduled ROUNDS M mixed (t + 8) w.new }
+    requires { (WORDS ≤ t) × (t + 8 ≤ ROUND_COUNT) }
+    ensures { (M : ℕ → ℕ) → Scheduled ROUND_COUNT M mixed t w.old → Scheduled ROUND_COUNT M mixed (t + 8) w.new }
 {
     grow(w, t);
     grow(w, t + 1);
@@ -112,7 +112,7 @@ fn grow8(w: &mut [u32; ROUNDS], t: usize)
 
 // The message schedule of a block.
 fn schedule(b: &[u8], w: &mut [u32; ROUNDS])
-    requires { (length b.now ≡ BLOCK) × (length w.old ≡ ROUNDS) }
+    requires { (length b.now ≡ BLOCK) × (length w.old ≡ ROUND_COUNT) }
     ensures { w.new ≡ W b.now }
 {
     let mut t: usize = 0;
@@ -161,7 +161,7 @@ fn sum(x: Hash, y: Hash) -> Hash
 
 // The round t, with the constants k and the schedule w, on the working variables s.
 fn step(s: Hash, k: &[u32; ROUNDS], w: &[u32; ROUNDS], t: usize) -> Hash
-    requires { (t < ROUNDS) × (k.now ≡ Ks) }
+    requires { (t < ROUND_COUNT) × (k.now ≡ Ks) }
     ensures { (x : Hash) → s ≡ rounds w.now x t → result ≡ rounds w.now x (t + 1) }
 {
     round(s, k[t], w[t])
@@ -169,7 +169,7 @@ fn step(s: Hash, k: &[u32; ROUNDS], w: &[u32; ROUNDS], t: usize) -> Hash
 
 // Eight rounds, from the round t.
 fn eight(s: Hash, k: &[u32; ROUNDS], w: &[u32; ROUNDS], t: usize) -> Hash
-    requires { (t + 8 ≤ ROUNDS) × (k.now ≡ Ks) }
+    requires { (t + 8 ≤ ROUND_COUNT) × (k.now ≡ Ks) }
     ensures { (x : Hash) → s ≡ rounds w.now x t → result ≡ rounds w.now x (t + 8) }
 {
     let s1 = step(s, k, w, t);
