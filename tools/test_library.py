@@ -65,7 +65,7 @@ class Library(unittest.TestCase):
 
     def test_structs_lie_as_proved(self):
         """Where C has a field is where crates/exports/proofs/Laid.antt proves that it is."""
-        laws = re.findall(r'^pub (\w+)-laid : laid \w+\.mir \([^)]*\) ≡ (.*) ∷ \[\]$', read('crates/exports/proofs/Laid.antt'), re.M)
+        laws = re.findall(r'^pub (\w+)_laid : laid \w+\.mir \([^)]*\) ≡ (.*) ∷ \[\]$', read('crates/exports/proofs/Laid.antt'), re.M)
         proved = {name: [int(n) for n in numbers.split(' ∷ ')] for name, numbers in laws}
         seen = {}
         for line in self.built(C, 'clients/layout.c').splitlines():
