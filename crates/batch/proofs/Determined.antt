@@ -11,22 +11,23 @@ use lib.ListN.{length}
 use borrow.Author.Tests.{leb-true, leb-false}
 use Rattle.flow.specs.Front.{◌▹◌, front}
 use Rattle.flow.proofs.Choices.{split}
-use Rattle.line.specs.Text.{between}
+use Rattle.std.specs.Prelude.{Result, Ok, Err}
+use Rattle.line.specs.declared.Span.{Span}
 use Rattle.limits.specs.Limits.{LINE}
 use Rattle.shelves.specs.declared.Shelf.{Shelf}
 use Rattle.tables.specs.declared.State.{State}
 use Rattle.program.specs.Frame.{frame_at}
-use Rattle.program.specs.declared.Frame.{Frame}
-use Rattle.program.specs.declared.Frame.TheVariants.{Body, More as FrameMore, Bad as FrameBad}
-use Rattle.batch.specs.Batch.{next_of, event_line, Ran, none, one, last_line, Ended, Served}
+use Rattle.program.specs.declared.Stop.{Stop}
+use Rattle.program.specs.declared.Stop.TheVariants.{More as StopMore, Bad as StopBad}
+use Rattle.batch.specs.Batch.{next_of, event_line, body_of, Ran, none, one, last_line, Ended, Served}
 use Rattle.batch.specs.declared.Why.{Why}
 use Rattle.batch.specs.declared.Why.TheVariants.{More, Full, Bad}
 use Rattle.batch.specs.declared.Batch.{Batch}
 
-unfoldable frame_no : Frame → ℕ
-frame_no (Body start end) = 0
-frame_no FrameMore = 1
-frame_no FrameBad = 2
+unfoldable frame_no : Result Span Stop → ℕ
+frame_no (Ok x) = 0
+frame_no (Err StopMore) = 1
+frame_no (Err StopBad) = 2
 
 -- where a run of events stands
 record Spot : Type 0 where
@@ -36,16 +37,15 @@ record Spot : Type 0 where
   place : ℕ
 
 module _ (shelf : Shelf) (input : List ℕ) (room : ℕ) (s : State) (from first : ℕ) where
-  unfoldable moved : Frame → Spot → Spot
-  moved (Body start end) x =
+  unfoldable moved : Result Span Stop → Spot → Spot
+  moved (Ok f) x =
       record {
-        lines = x.lines ▹ event_line x.place x.state shelf (between input start end);
-        state = next_of x.state shelf (between input start end);
-        at = end;
+        lines = x.lines ▹ event_line x.place x.state shelf (body_of input f);
+        state = next_of x.state shelf (body_of input f);
+        at = f.end;
         place = x.place + 1;
       }
-  moved FrameMore x = x
-  moved FrameBad x = x
+  moved (Err e) x = x
 
   unfoldable turns : ℕ → Spot
   turns zero = record { lines = []; state = s; at = from; place = first }
@@ -53,10 +53,9 @@ module _ (shelf : Shelf) (input : List ℕ) (room : ℕ) (s : State) (from first
 
   -- there was room for a line, and an event
   record Next (x : Spot) : Type 0 where
-    start : ℕ
-    end : ℕ
+    frame : Span
     fits : length x.lines + LINE ≤ room
-    body : frame_at input x.at ≡ Body start end
+    body : frame_at input x.at ≡ Ok frame
 
   record Turned (x : Spot) : Type 0 where
     count : ℕ
@@ -66,12 +65,12 @@ module _ (shelf : Shelf) (input : List ℕ) (room : ℕ) (s : State) (from first
   turned : {lines : List ℕ} {t : State} {at place : ℕ} → Ran shelf input room s from first lines t at place → Turned (record { lines = lines; state = t; at = at; place = place })
   unfolding turns moved
   turned none = record { count = 0; is = refl; next = λ k h. absurd (omega (arith, h)) }
-  turned (one {lines = lines} {t = t} {at = at} {place = place} start end r fits body) =
+  turned (one {lines = lines} {t = t} {at = at} {place = place} f r fits body) =
       let past = turned r in
-      let now : Next (turns past.count) = subst Next past.is (record { start = start; end = end; fits = fits; body = body }) in
+      let now : Next (turns past.count) = subst Next past.is (record { frame = f; fits = fits; body = body }) in
       record {
         count = suc past.count;
-        is = ap (λ f. moved f (record { lines = lines; state = t; at = at; place = place })) (sym body) ∙ ap (λ (x : Spot). moved (frame_at input x.at) x) past.is;
+        is = ap (λ g. moved g (record { lines = lines; state = t; at = at; place = place })) (sym body) ∙ ap (λ (x : Spot). moved (frame_at input x.at) x) past.is;
         next = λ k h. ⊎_elim (λ (e : k ≡ past.count). subst⁻¹ (λ k. Next (turns k)) e now) (λ l. past.next k l) (eq-or-lt_of_le (omega (arith, h)));
       }
 
@@ -103,13 +102,14 @@ module _ (shelf : Shelf) (input : List ℕ) (room : ℕ) (s : State) (from first
   one-why Bad Full at len d e = absurd (omega (arith, d.0))
   one-why Bad Bad at len d e = refl
 
-pub record Equal (r r' : Batch) (new new' : List ℕ) : Type 0 where
+pub record Equal (t t' : State) (r r' : Batch) (new new' : List ℕ) : Type 0 where
+  pub state : t ≡ t'
   pub batch : r ≡ r'
   pub buffer : new ≡ new'
 
-module _ (shelf : Shelf) (input : List ℕ) (s : State) (from first : ℕ) (r r' : Batch) (old new new' : List ℕ)
-    (m : Served shelf input s from first r old new) (m' : Served shelf input s from first r' old new') where
-  at_spot : ◌≡◌ {A = Spot} (record { lines = m.lines; state = r.state; at = r.at; place = r.place }) (record { lines = m'.lines; state = r'.state; at = r'.at; place = r'.place })
+module _ (shelf : Shelf) (input : List ℕ) (s : State) (from first : ℕ) (t t' : State) (r r' : Batch) (old new new' : List ℕ)
+    (m : Served shelf input s from first t r old new) (m' : Served shelf input s from first t' r' old new') where
+  at_spot : ◌≡◌ {A = Spot} (record { lines = m.lines; state = t; at = r.at; place = r.place }) (record { lines = m'.lines; state = t'; at = r'.at; place = r'.place })
   at_spot = one_spot shelf input (length old) s from first _ _ r.why r'.why (turned shelf input (length old) s from first m.ran) (turned shelf input (length old) s from first m'.ran) m.ended m'.ended
 
   why-is : r.why ≡ r'.why
@@ -123,12 +123,13 @@ module _ (shelf : Shelf) (input : List ℕ) (s : State) (from first : ℕ) (r r'
   len_is : r.len ≡ r'.len
   len_is = m.wrote.count ∙ ap length lines_are ∙ sym m'.wrote.count
 
-  pub determined : Equal r r' new new'
+  pub determined : Equal t t' r r' new new'
   determined =
       record {
+        state = ap (λ (x : Spot). x.state) at_spot;
         batch =
-            ap (λ (x : Spot). record { state = x.state; at = x.at; place = x.place; len = r.len; why = r.why }) at_spot
-            ∙ ap (λ n. record { state = r'.state; at = r'.at; place = r'.place; len = n; why = r.why }) len_is
-            ∙ ap (λ w. record { state = r'.state; at = r'.at; place = r'.place; len = r'.len; why = w }) why-is;
+            ap (λ (x : Spot). record { at = x.at; place = x.place; len = r.len; why = r.why }) at_spot
+            ∙ ap (λ n. record { at = r'.at; place = r'.place; len = n; why = r.why }) len_is
+            ∙ ap (λ w. record { at = r'.at; place = r'.place; len = r'.len; why = w }) why-is;
         buffer = m.wrote.octets ∙ ap (λ x. front x old) lines_are ∙ sym m'.wrote.octets;
       }

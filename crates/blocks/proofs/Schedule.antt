@@ -1,5 +1,5 @@
 -- The message schedule, for any rule: an array that is filled with it, and sixteen words that are turned as it goes.
-use mathlib.Core.Path.{◌≡◌, refl, sym, ap, ap₂, subst, ◌∙◌}
+use mathlib.Core.Path.{◌≡◌, refl, sym, ap, ap₂, ◌∙◌}
 use mathlib.Core.Logic.{◌≢◌, ⊎_elim}
 use mathlib.Core.Bool.{Bool, true, false}
 use mathlib.Core.List.{List, [], ◌∷◌, ◌++◌}
@@ -86,9 +86,6 @@ module _ (M : ℕ → ℕ) (rule : (ℕ → ℕ) → ℕ) where
     window-next h p =
         let q : x ≡ rule (turned (window M rule t) t) = p ∙ ap (λ (l : List ℕ). rule (turned l t)) e in
         rw add-one (ap₂ (λ (l : List ℕ) (y : ℕ). set l (t % WORDS) y) e (by-ge x (M t) _ t WORDS h q))
-
-pub moved : {M : ℕ → ℕ} {rule : (ℕ → ℕ) → ℕ} {size t u : ℕ} {w : List ℕ} → t ≡ u → Scheduled size M rule t w → Scheduled size M rule u w
-moved {M} {rule} {size} {w = w} e s = subst (λ (n : ℕ). Scheduled size M rule n w) e s
 
 -- an array, one word more at a turn
 module _ (size : ℕ) (M : ℕ → ℕ) (rule : (ℕ → ℕ) → ℕ) (t : ℕ) (w : List ℕ) (s : Scheduled size M rule t w) where

@@ -3,7 +3,7 @@ use Prim.Native.Nat.{ℕ, zero, suc}
 use native.Mathlib.Omega.{arith}
 use mathlib.Core.Path.{◌≡◌, sym, subst}
 use mathlib.Core.List.{List, [], ◌∷◌, ◌++◌}
-use mathlib.Core.Option.{some}
+use Rattle.std.specs.Prelude.{Some}
 use Rattle.line.specs.Number.{Octets}
 use Rattle.line.specs.Text.{text_octets}
 use Rattle.settings.specs.Table.{SETTINGS}
@@ -22,7 +22,7 @@ octets_right [] y o i = o i
 octets_right (a ∷ x) y o i = octets_right x y (λ k. o (suc k)) i
 
 pub rand-octets : (body : List ℕ) (t restart n : ℕ) (v : VectorValues) → Octets body
-    → decoded body ≡ some (record { time = t; kind = on_run (record { restart = restart; run = n; act = vector v }) }) → Octets v.rand
+    → decoded body ≡ Some (record { time = t; kind = on_run (record { restart = restart; run = n; act = vector v }) }) → Octets v.rand
 unfolding EVENT VECTOR octets from_kind from_act
 rand-octets body t restart n v o q =
     let w = event_written body _ o q in

@@ -1,133 +1,74 @@
 -- What the parts of the decoder promise, each by its line of the table.
-use Rattle.std.specs.Prelude.{ℕ, ◌+◌, ◌≤◌, ◌≡◌, List, length, eqb}
+use Rattle.std.specs.Prelude.{ℕ, ◌≤◌, ◌≡◌, Option, Some, None, List, length, eqb}
 use Rattle.flow.specs.Choice.{pick}
-use Rattle.limits.specs.Limits.{TIME, WORD, RES_LEAST, RES_MOST, BARE}
-use Rattle.line.specs.Text.{between, Inside}
+use Rattle.limits.specs.Limits.{TIME, WORD}
 use Rattle.format.specs.Read.{Read, got, bad, and_then}
-use Rattle.format.specs.Format.{Format, bare, text, ◌⨾◌, read}
+use Rattle.format.specs.Format.{Format, ◌⨾◌, read}
 use Rattle.event.specs.Values.{VectorValues, vector, response, abort, start, KeyValues, key, EventValues}
 use Rattle.event.specs.Table.{TIMES, START, VECTOR, RESPONSE, KEY, NamedValues, NAMED, on_run_of}
 use Rattle.event.specs.Meaning.{vector_means, key_means, values_at}
 use Rattle.event.specs.Placed.{VectorPlaced, KeyPlaced, Placed}
 use Rattle.event.specs.declared.EventAt.{EventAt}
-use Rattle.event.specs.declared.Decoded.{Decoded}
-use Rattle.event.specs.declared.Decoded.TheVariants.{Event, Bad}
+use Rattle.event.specs.declared.VectorAt.{VectorAt}
+use Rattle.event.specs.declared.KeyAt.{KeyAt}
 use Rattle.event.specs.declared.Named.{Named}
-use Rattle.event.specs.declared.Named.TheVariants.{At as NamedAt, Bad as NoNamed}
-use Rattle.event.specs.declared.Two.{Two}
-use Rattle.event.specs.declared.Two.TheVariants.{At as TwoAt, Bad as NoTwo}
-use Rattle.event.specs.declared.Quintet.{Quintet}
-use Rattle.event.specs.declared.Quintet.TheVariants.{At as QuintetAt, Bad as NoQuintet}
-use Rattle.event.specs.declared.VectorRead.{VectorRead}
-use Rattle.event.specs.declared.VectorRead.TheVariants.{At as AVector, Bad as NoVector}
-use Rattle.event.specs.declared.KeyRead.{KeyRead}
-use Rattle.event.specs.declared.KeyRead.TheVariants.{At as AKey, Bad as NoKey}
 
 -- ---- time, restart, run
 
-abbrev pub named_read : Named → Read NamedValues
-named_read (NamedAt time restart run end) = got (time, (restart, run)) end
-named_read NoNamed = bad
+abbrev pub named_read : Option Named → Read NamedValues
+named_read (Some n) = got (n.time, (n.restart, n.run)) n.end
+named_read None = bad
 
-pub record NamedRanged (time restart run : ℕ) : Type 0 where
-  pub time_most : time ≤ TIME
-  pub restart_most : restart ≤ WORD
-  pub run_most : run ≤ WORD
+pub record NamedRanged (n : Named) : Type 0 where
+  pub time_most : n.time ≤ TIME
+  pub restart_most : n.restart ≤ WORD
+  pub run_most : n.run ≤ WORD
 
-abbrev pub NamedPlaced : Named → Type 0
-NamedPlaced (NamedAt time restart run end) = NamedRanged time restart run
-NamedPlaced NoNamed = Unit {0}
+abbrev pub NamedPlaced : Option Named → Type 0
+NamedPlaced (Some n) = NamedRanged n
+NamedPlaced None = Unit {0}
 
-pub record NamedReads (s : List ℕ) (r : Named) : Type 0 where
+pub record NamedReads (s : List ℕ) (r : Option Named) : Type 0 where
   pub means : named_read r ≡ read NAMED s 1
   pub placed : NamedPlaced r
 
--- ---- RAND and AUTN, or CK and IK
-
-abbrev pub TWO : Format (List ℕ × List ℕ)
-TWO = bare BARE ⨾ bare BARE
-
-abbrev pub two_read : List ℕ → Two → Read (List ℕ × List ℕ)
-two_read s (TwoAt first second end) = got (between s first (first + BARE), between s second (second + BARE)) end
-two_read s NoTwo = bad
-
-pub record TwoInside (s : List ℕ) (first second : ℕ) : Type 0 where
-  pub first_inside : first + BARE ≤ length s
-  pub second_inside : second + BARE ≤ length s
-
-abbrev pub TwoPlaced : List ℕ → Two → Type 0
-TwoPlaced s (TwoAt first second end) = TwoInside s first second
-TwoPlaced s NoTwo = Unit {0}
-
-pub record TwoReads (s : List ℕ) (at : ℕ) (r : Two) : Type 0 where
-  pub means : two_read s r ≡ read TWO s at
-  pub placed : TwoPlaced s r
-
--- ---- RAND, AUTN, XRES, CK, IK
-
-abbrev pub QuintetValues : Type 0
-QuintetValues = List ℕ × (List ℕ × (List ℕ × (List ℕ × List ℕ)))
-
-abbrev pub QUINTET : Format QuintetValues
-QUINTET = bare BARE ⨾ bare BARE ⨾ text RES_LEAST RES_MOST ⨾ bare BARE ⨾ bare BARE
-
-abbrev pub quintet_read : List ℕ → Quintet → Read QuintetValues
-quintet_read s (QuintetAt rand autn xres xresend ck ik end) =
-    got (between s rand (rand + BARE), (between s autn (autn + BARE), (between s xres xresend, (between s ck (ck + BARE), between s ik (ik + BARE))))) end
-quintet_read s NoQuintet = bad
-
-pub record QuintetInside (s : List ℕ) (rand autn xres xresend ck ik : ℕ) : Type 0 where
-  pub rand_inside : rand + BARE ≤ length s
-  pub autn_inside : autn + BARE ≤ length s
-  pub xres_inside : Inside s RES_LEAST RES_MOST xres xresend
-  pub ck_inside : ck + BARE ≤ length s
-  pub ik_inside : ik + BARE ≤ length s
-
-abbrev pub QuintetPlaced : List ℕ → Quintet → Type 0
-QuintetPlaced s (QuintetAt rand autn xres xresend ck ik end) = QuintetInside s rand autn xres xresend ck ik
-QuintetPlaced s NoQuintet = Unit {0}
-
-pub record QuintetReads (s : List ℕ) (at : ℕ) (r : Quintet) : Type 0 where
-  pub means : quintet_read s r ≡ read QUINTET s at
-  pub placed : QuintetPlaced s r
-
 -- ---- the fields of a VECTOR after the run
 
-abbrev pub vector_read : List ℕ → VectorRead → Read VectorValues
-vector_read s (AVector v end) = got (vector_means s v) end
-vector_read s NoVector = bad
+abbrev pub vector_read : List ℕ → Option (VectorAt × ℕ) → Read VectorValues
+vector_read s (Some (v, end)) = got (vector_means s v) end
+vector_read s None = bad
 
-abbrev pub VectorReadPlaced : List ℕ → VectorRead → Type 0
-VectorReadPlaced s (AVector v end) = VectorPlaced s v
-VectorReadPlaced s NoVector = Unit {0}
+abbrev pub VectorReadPlaced : List ℕ → Option (VectorAt × ℕ) → Type 0
+VectorReadPlaced s (Some (v, end)) = VectorPlaced s v
+VectorReadPlaced s None = Unit {0}
 
-pub record VectorReads (s : List ℕ) (at : ℕ) (r : VectorRead) : Type 0 where
+pub record VectorReads (s : List ℕ) (at : ℕ) (r : Option (VectorAt × ℕ)) : Type 0 where
   pub means : vector_read s r ≡ read VECTOR s at
   pub placed : VectorReadPlaced s r
 
 -- ---- the fields of a KEY after time
 
-abbrev pub key_read : List ℕ → KeyRead → Read KeyValues
-key_read s (AKey v end) = got (key_means s v) end
-key_read s NoKey = bad
+abbrev pub key_read : List ℕ → Option (KeyAt × ℕ) → Read KeyValues
+key_read s (Some (v, end)) = got (key_means s v) end
+key_read s None = bad
 
-abbrev pub KeyReadPlaced : List ℕ → KeyRead → Type 0
-KeyReadPlaced s (AKey v end) = KeyPlaced s v
-KeyReadPlaced s NoKey = Unit {0}
+abbrev pub KeyReadPlaced : List ℕ → Option (KeyAt × ℕ) → Type 0
+KeyReadPlaced s (Some (v, end)) = KeyPlaced s v
+KeyReadPlaced s None = Unit {0}
 
-pub record KeyReads (s : List ℕ) (at : ℕ) (r : KeyRead) : Type 0 where
+pub record KeyReads (s : List ℕ) (at : ℕ) (r : Option (KeyAt × ℕ)) : Type 0 where
   pub means : key_read s r ≡ read KEY s at
   pub placed : KeyReadPlaced s r
 
 -- ---- a body, by its kind octet
 
 -- nothing may follow the last field
-abbrev pub end_of : List ℕ → ℕ → EventAt → Decoded
-end_of s at e = pick (eqb at (length s)) (Event e) Bad
+abbrev pub end_of : List ℕ → ℕ → EventAt → Option EventAt
+end_of s at e = pick (eqb at (length s)) (Some e) None
 
-abbrev pub event_read : List ℕ → Decoded → Read EventValues
-event_read s (Event e) = got (values_at s e) (length s)
-event_read s Bad = bad
+abbrev pub event_read : List ℕ → Option EventAt → Read EventValues
+event_read s (Some e) = got (values_at s e) (length s)
+event_read s None = bad
 
 -- the fields of a kind after the kind octet, and nothing after them
 unfoldable pub body_of : {A : Type 0} → Format A → (A → EventValues) → List ℕ → Read EventValues
@@ -149,6 +90,6 @@ abbrev pub key_of : List ℕ → Read EventValues
 key_of s = body_of (TIMES ⨾ KEY) (λ x. record { time = x.0; kind = key x.1 }) s
 
 -- what the reader of a kind promises, where o is what the table reads
-pub record KindReads (o : Read EventValues) (s : List ℕ) (r : Decoded) : Type 0 where
+pub record KindReads (o : Read EventValues) (s : List ℕ) (r : Option EventAt) : Type 0 where
   pub means : event_read s r ≡ o
   pub placed : Placed s r

@@ -1,6 +1,6 @@
 -- What the places of an event mean: the values that stand there.
 use Rattle.std.specs.Prelude.{ℕ, ◌+◌, List}
-use Rattle.std.proofs.Math.Option.{Option, none, some}
+use Rattle.std.specs.Prelude.{Option, None, Some}
 use Rattle.limits.specs.Limits.{BARE}
 use Rattle.line.specs.Text.{between}
 use Rattle.settings.specs.Meaning.{settings_means}
@@ -16,31 +16,29 @@ use Rattle.event.specs.declared.KeyAt.{KeyAt}
 use Rattle.event.specs.declared.KindAt.{KindAt}
 use Rattle.event.specs.declared.KindAt.TheVariants.{Start, OnRun, Key}
 use Rattle.event.specs.declared.EventAt.{EventAt}
-use Rattle.event.specs.declared.Decoded.{Decoded}
-use Rattle.event.specs.declared.Decoded.TheVariants.{Event, Bad}
 
 abbrev pub start_means : List ℕ → StartAt → StartValues
-start_means s v = record { impi = between s v.impi v.impiend }
+start_means s v = record { impi = between s v.impi.start v.impi.end }
 
 abbrev pub vector_means : List ℕ → VectorAt → VectorValues
 vector_means s v = record {
-  impi = between s v.impi v.impiend;
+  impi = between s v.impi.start v.impi.end;
   rand = between s v.rand (v.rand + BARE);
   autn = between s v.autn (v.autn + BARE);
-  xres = between s v.xres v.xresend;
+  xres = between s v.xres.start v.xres.end;
   ck = between s v.ck (v.ck + BARE);
   ik = between s v.ik (v.ik + BARE);
   settings = settings_means s v.settings;
 }
 
 abbrev pub response_means : List ℕ → ResponseAt → ResponseValues
-response_means s v = record { res = between s v.res v.resend }
+response_means s v = record { res = between s v.res.start v.res.end }
 
 abbrev pub key_means : List ℕ → KeyAt → KeyValues
 key_means s v = record {
-  peer = between s v.peer v.peerend;
-  btid = between s v.btid v.btidend;
-  naf = between s v.naf v.nafend;
+  peer = between s v.peer.start v.peer.end;
+  btid = between s v.btid.start v.btid.end;
+  naf = between s v.naf.start v.naf.end;
   application = v.application;
 }
 
@@ -60,6 +58,6 @@ kind_means s (Key v) = key (key_means s v)
 abbrev pub values_at : List ℕ → EventAt → EventValues
 values_at s e = record { time = e.time; kind = kind_means s e.kind }
 
-abbrev pub meaning : List ℕ → Decoded → Option EventValues
-meaning s (Event e) = some (values_at s e)
-meaning s Bad = none
+abbrev pub meaning : List ℕ → Option EventAt → Option EventValues
+meaning s (Some e) = Some (values_at s e)
+meaning s None = None

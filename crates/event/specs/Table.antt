@@ -2,7 +2,7 @@
 -- field.
 use Rattle.std.specs.Prelude.{ℕ, ◌+◌, ◌≡◌, refl, ◌⊎◌, List}
 use Rattle.std.proofs.Common.{inl, inr}
-use Rattle.std.proofs.Math.Option.{Option, none, some}
+use Rattle.std.specs.Prelude.{Option, None, Some}
 use Rattle.limits.specs.Limits.{TIME, WORD, NAME, BTID, UA, RES_LEAST, RES_MOST, BARE}
 use Rattle.format.specs.Read.{Read, got, bad}
 use Rattle.format.specs.Format.{Format, number, text, bare, ◌⨾◌, tag, never, named, decode}
@@ -130,8 +130,8 @@ EVENT =
 -- ---- a body
 
 unfoldable pub value_of : {A : Type 0} → Read A → Option A
-value_of (got a next) = some a
-value_of bad = none
+value_of (got a next) = Some a
+value_of bad = None
 
 -- the event of a body; none where the body is not as laid out
 unfoldable pub decoded : List ℕ → Option EventValues

@@ -1,5 +1,7 @@
 -- 01, "What goes back": the refusals by name. Checks run in this order; the first that applies decides.
 use Rattle.std.specs.Prelude.{ℕ}
+use Rattle.flow.specs.declared.Refusal.{Refusal}
+use Rattle.flow.specs.declared.Refusal.TheVariants.{NotOpen, Short, Form, Clock, Spent, NoRun, Stale, Twice, Other, NoCopy, RandSeen, Early, NoSession, NotYours, NoBtid, Policy}
 
 -- opening values out of range; any event on the closed state that this opening returns
 abbrev pub NOT_OPEN : ℕ
@@ -64,3 +66,22 @@ NO_BTID = 15
 -- KEY, required application with the row's group absent
 abbrev pub POLICY : ℕ
 POLICY = 16
+
+-- the number of a refusal
+abbrev pub number : Refusal → ℕ
+number NotOpen = NOT_OPEN
+number Short = SHORT
+number Form = FORM
+number Clock = CLOCK
+number Spent = SPENT
+number NoRun = NO_RUN
+number Stale = STALE
+number Twice = TWICE
+number Other = OTHER
+number NoCopy = NO_COPY
+number RandSeen = RAND_SEEN
+number Early = EARLY
+number NoSession = NO_SESSION
+number NotYours = NOT_YOURS
+number NoBtid = NO_BTID
+number Policy = POLICY

@@ -1,4 +1,4 @@
--- How a reader's proof follows the table: each law takes what a call and its `let .. else` leave to one field. The ruleset `tabled` closes a
+-- How a reader's proof follows the table: each law takes what a call and its `?` leave to one field. The ruleset `tabled` closes a
 -- `returns`, under `unfolding` of the table's name.
 use Prim.Native.Nat.{ℕ, ◌+◌, ◌≤◌, ◌<◌}
 use native.Mathlib.Nat.{pos_of_ne-zero}
@@ -12,12 +12,10 @@ use lib.Dec.{eqb, ltb}
 use borrow.Author.Tests.{lt-ltb, le-ltb, eq-eqb, ne_eqb}
 use Rattle.flow.specs.Choice.{pick}
 use Rattle.flow.proofs.Choices.{choices}
-use Rattle.line.specs.Number.{number_at, with_num}
+use Rattle.std.specs.Prelude.{Some, None}
+use Rattle.line.specs.Number.{value, number_at, with_num}
 use Rattle.line.specs.Text.{octets_at, text_at, with_span, between, Inside}
-use Rattle.line.specs.declared.Num.{Num}
-use Rattle.line.specs.declared.Num.TheVariants.{Value, Bad as NoNum}
 use Rattle.line.specs.declared.Span.{Span}
-use Rattle.line.specs.declared.Span.TheVariants.{At, Bad as NoSpan}
 use Rattle.line.proofs.Numbers.{number-most}
 use Rattle.line.proofs.Texts.{octets-read, text-inside}
 use Rattle.format.specs.Read.{Read, got, bad, and_then, times}
@@ -37,18 +35,18 @@ module _ {C : Type 0} (o : Read C) (s : List ℕ) (at : ℕ) where
     unfolding and_then
     by-bad g p = p ∙ ap (λ x. and_then x k) (sym g ∙ e)
 
-  module _ (hi : ℕ) (r : Num) (e : r ≡ number_at s at hi) (k : ℕ → ℕ → Read C) where
-    pub by-no-number : (lo : ℕ) → r ≡ NoNum → o ≡ bad → o ≡ and_then (read (number lo hi) s at) k
+  module _ (hi : ℕ) (k : ℕ → ℕ → Read C) where
+    pub by-no-number : (lo : ℕ) → None ≡ number_at s at hi → o ≡ bad → o ≡ and_then (read (number lo hi) s at) k
     unfolding read and_then with_num
-    by-no-number lo g p = p ∙ ap (λ x. and_then (with_num bad x λ n next. pick (ltb n lo) bad (got n next)) k) (sym g ∙ e)
+    by-no-number lo e p = p ∙ ap (λ x. and_then (with_num bad x λ n next. pick (ltb n lo) bad (got n next)) k) e
 
-    module _ (n next : ℕ) (g : r ≡ Value n next) where
+    module _ (n next : ℕ) (e : value n next ≡ number_at s at hi) where
       by-num : (lo : ℕ) (t : Bool) → ltb n lo ≡ t → o ≡ and_then (pick t bad (got n next)) k → o ≡ and_then (read (number lo hi) s at) k
       unfolding read with_num
       by-num lo t q p =
           p
           ∙ ap (λ x. and_then (pick x bad (got n next)) k) (sym q)
-          ∙ ap (λ x. and_then (with_num bad x λ n next. pick (ltb n lo) bad (got n next)) k) (sym g ∙ e)
+          ∙ ap (λ x. and_then (with_num bad x λ n next. pick (ltb n lo) bad (got n next)) k) e
 
       pub by_number : o ≡ k n next → o ≡ and_then (read (number 0 hi) s at) k
       unfolding and_then pick
@@ -62,23 +60,23 @@ module _ {C : Type 0} (o : Read C) (s : List ℕ) (at : ℕ) where
       unfolding and_then pick
       by-number-0 h p = by-num 1 true (lt-ltb n 1 (omega arith)) p
 
-  module _ (lo hi : ℕ) (r : Span) (e : r ≡ text_at s at lo hi) (k : List ℕ → ℕ → Read C) where
-    pub by-text : (a z : ℕ) → r ≡ At a z → o ≡ k (between s a z) z → o ≡ and_then (read (text lo hi) s at) k
+  module _ (lo hi : ℕ) (k : List ℕ → ℕ → Read C) where
+    pub by-text : (x : Span) → Some x ≡ text_at s at lo hi → o ≡ k (between s x.start x.end) x.end → o ≡ and_then (read (text lo hi) s at) k
     unfolding read and_then with_span
-    by-text a z g p = p ∙ ap (λ x. and_then (with_span bad x λ start end. got (between s start end) end) k) (sym g ∙ e)
+    by-text x e p = p ∙ ap (λ x. and_then (with_span bad x λ start end. got (between s start end) end) k) e
 
-    pub by-no-text : r ≡ NoSpan → o ≡ bad → o ≡ and_then (read (text lo hi) s at) k
+    pub by-no-text : None ≡ text_at s at lo hi → o ≡ bad → o ≡ and_then (read (text lo hi) s at) k
     unfolding read and_then with_span
-    by-no-text g p = p ∙ ap (λ x. and_then (with_span bad x λ start end. got (between s start end) end) k) (sym g ∙ e)
+    by-no-text e p = p ∙ ap (λ x. and_then (with_span bad x λ start end. got (between s start end) end) k) e
 
-  module _ (n : ℕ) (r : Span) (e : r ≡ octets_at s at n) (k : List ℕ → ℕ → Read C) where
-    pub by_bare : (a z : ℕ) → r ≡ At a z → o ≡ k (between s a (a + n)) z → o ≡ and_then (read (bare n) s at) k
+  module _ (n : ℕ) (k : List ℕ → ℕ → Read C) where
+    pub by_bare : (x : Span) → Some x ≡ octets_at s at n → o ≡ k (between s x.start (x.start + n)) x.end → o ≡ and_then (read (bare n) s at) k
     unfolding read and_then with_span
-    by_bare a z g p = p ∙ ap (λ x. and_then (with_span bad x λ start end. got (between s start (start + n)) end) k) (sym g ∙ e)
+    by_bare x e p = p ∙ ap (λ x. and_then (with_span bad x λ start end. got (between s start (start + n)) end) k) e
 
-    pub by-no-bare : r ≡ NoSpan → o ≡ bad → o ≡ and_then (read (bare n) s at) k
+    pub by-no-bare : None ≡ octets_at s at n → o ≡ bad → o ≡ and_then (read (bare n) s at) k
     unfolding read and_then with_span
-    by-no-bare g p = p ∙ ap (λ x. and_then (with_span bad x λ start end. got (between s start (start + n)) end) k) (sym g ∙ e)
+    by-no-bare e p = p ∙ ap (λ x. and_then (with_span bad x λ start end. got (between s start (start + n)) end) k) e
 
   pub by-nothing : (k : Unit {0} → ℕ → Read C) → o ≡ k tt at → o ≡ and_then (read nothing s at) k
   unfolding read and_then
@@ -132,14 +130,14 @@ module _ {C : Type 0} (o : Read C) (s : List ℕ) (at : ℕ) where
     by-short h p = p ∙ tag-none f g s at c k h
 
   -- a count, then that many
-  module _ {A : Type 0} (hi : ℕ) (f : Format A) (r : Num) (e : r ≡ number_at s at hi) (k : List A → ℕ → Read C) where
-    pub by-many : (n next : ℕ) → r ≡ Value n next → o ≡ and_then (times (λ a. read f s a) n next) k → o ≡ and_then (read (many hi f) s at) k
+  module _ {A : Type 0} (hi : ℕ) (f : Format A) (k : List A → ℕ → Read C) where
+    pub by-many : (n next : ℕ) → value n next ≡ number_at s at hi → o ≡ and_then (times (λ a. read f s a) n next) k → o ≡ and_then (read (many hi f) s at) k
     unfolding read with_num
-    by-many n next g p = p ∙ ap (λ x. and_then (with_num bad x λ n next. times (λ a. read f s a) n next) k) (sym g ∙ e)
+    by-many n next e p = p ∙ ap (λ x. and_then (with_num bad x λ n next. times (λ a. read f s a) n next) k) e
 
-    pub by-no-many : r ≡ NoNum → o ≡ bad → o ≡ and_then (read (many hi f) s at) k
+    pub by-no-many : None ≡ number_at s at hi → o ≡ bad → o ≡ and_then (read (many hi f) s at) k
     unfolding read and_then with_num
-    by-no-many g p = p ∙ ap (λ x. and_then (with_num bad x λ n next. times (λ a. read f s a) n next) k) (sym g ∙ e)
+    by-no-many e p = p ∙ ap (λ x. and_then (with_num bad x λ n next. times (λ a. read f s a) n next) k) e
 
 -- a reading by itself
 pub by_read : {A : Type 0} (o : Read A) (f : Format A) (s : List ℕ) (at : ℕ) → o ≡ and_then (read f s at) (λ a n. got a n) → o ≡ read f s at
@@ -168,13 +166,13 @@ pub ruleset tabled = (
 -- ---- where what was read stands
 
 module _ (s : List ℕ) (at : ℕ) where
-  pub most-read : (hi : ℕ) (r : Num) (n next : ℕ) → r ≡ number_at s at hi → r ≡ Value n next → n ≤ hi
-  most-read hi r n next e g = number-most s at hi n next (sym e ∙ g)
+  pub most-read : (hi n next : ℕ) → value n next ≡ number_at s at hi → n ≤ hi
+  most-read hi n next e = number-most s at hi n next (sym e)
 
-  pub inside-read : (lo hi : ℕ) (r : Span) (a z : ℕ) → r ≡ text_at s at lo hi → r ≡ At a z → Inside s lo hi a z
-  inside-read lo hi r a z e g = text-inside s at lo hi a z (sym e ∙ g)
+  pub inside-read : (lo hi : ℕ) (x : Span) → Some x ≡ text_at s at lo hi → Inside s lo hi x.start x.end
+  inside-read lo hi x e = text-inside s at lo hi x.start x.end (sym e)
 
-  pub bare-read : (n : ℕ) (r : Span) (a z : ℕ) → r ≡ octets_at s at n → r ≡ At a z → a + n ≤ length s
-  bare-read n r a z e g = let o = octets-read s at n a z (sym e ∙ g) in omega (arith, o.first, o.last, o.inside)
+  pub bare-read : (n : ℕ) (x : Span) → Some x ≡ octets_at s at n → x.start + n ≤ length s
+  bare-read n x e = let o = octets-read s at n x.start x.end (sym e) in omega (arith, o.first, o.last, o.inside)
 
 pub ruleset standing = (most-read, inside-read, bare-read, pos_of_ne-zero)

@@ -5,7 +5,8 @@
 ghost use Rattle.std.specs.Prelude.{◌≡◌, ◌-◌, ◌≤◌, IfOk, length, take, drop};
 
 use batch::Why;
-use program::OpeningPart;
+use flow::Refusal;
+use program::Stop;
 use shelves::Shelf;
 use std::io;
 use std::io::{Read, Write};
@@ -32,33 +33,19 @@ fn shift(input: &mut [u8], from: usize, held: usize) -> usize
     requires { (from ≤ held) × (held ≤ length input.old) }
     ensures { (result ≡ held - from) × (take result input.new ≡ take result (drop from input.old)) }
 {
-    let n = held - from;
-    let mut i: usize = 0;
-    while i < n {
-        input[i] = input[from + i];
-        i += 1;
-    }
-    n
+    input.copy_within(from..held, 0);
+    held - from
 }
 
-// Whether the input so far is the front of an opening part.
-fn is_cut(input: &[u8]) -> bool {
-    if let OpeningPart::More = program::read_opening(input) {
-        true
-    } else {
-        false
-    }
-}
-
-// Reads until the opening part is whole or bad, or the input ends. Returns how much is held then.
+// Reads until the opening part is whole or bad, or the input ends; how often is not known before. Returns how much is held then.
 fn begin(rt: &HostRuntime, input: &mut [u8]) -> io::Result<usize>
     ensures { IfOk result (λ held. held ≤ length input.old) }
 {
     let mut held: usize = 0;
-    while is_cut(&input[..held]) {
+    while let Err(Stop::More) = program::read_opening(&input[..held]) {
         let more = fill(rt, input, held)?;
         if more == held {
-            return Ok(held);
+            break;
         }
         held = more;
     }
@@ -66,9 +53,9 @@ fn begin(rt: &HostRuntime, input: &mut [u8]) -> io::Result<usize>
 }
 
 // Prints a line with no answer.
-fn print_refused(rt: &HostRuntime, place: u64, number: u32) -> io::Result<()> {
+fn print_refused(rt: &HostRuntime, place: u64, refusal: Refusal) -> io::Result<()> {
     let mut line = [0u8; limits::LINE];
-    let len = program::put_line(&mut line, place, number, &[]);
+    let len = program::put_line(&mut line, place, refusal.into(), &[]);
     rt.stdout().write_all(&line[..len])
 }
 
@@ -87,7 +74,7 @@ fn read_on(
     let more = fill(rt, input, rest)?;
     if more == rest {
         if 0 < rest {
-            print_refused(rt, place, flow::FORM)?;
+            print_refused(rt, place, Refusal::Form)?;
         }
         return Ok(0);
     }
@@ -97,8 +84,8 @@ fn read_on(
 // Answers events until the input ends, or what stands there is no event.
 fn run(
     rt: &HostRuntime,
-    state: State,
-    shelf: Shelf,
+    state: &mut State,
+    shelf: &Shelf,
     input: &mut [u8],
     out: &mut [u8],
     from: usize,
@@ -106,34 +93,28 @@ fn run(
 ) -> io::Result<()>
     requires { (from ≤ first) × (first ≤ length input.old) × (length input.old ≤ 65536) }
 {
-    let mut state = state;
     let mut at = from;
     let mut held = first;
     let mut place: u64 = 1;
-    let mut turns = u64::MAX;
-    while turns > 0 {
+    for _ in 0..u64::MAX {
         if EVENTS < place {
-            return Ok(());
+            break;
         }
-        let done = batch::serve(state, shelf, &input[..held], at, place, out);
-        let len = done.len;
-        rt.stdout().write_all(&out[..len])?;
-        state = done.state;
-        at = done.at;
-        place = done.place;
-        let why = done.why;
-        match why {
-            Why::Bad => return Ok(()),
+        let batch = batch::serve(state, shelf, &input[..held], at, place, out);
+        rt.stdout().write_all(&out[..batch.len])?;
+        at = batch.at;
+        place = batch.place;
+        match batch.why {
+            Why::Bad => break,
             Why::Full => {}
             Why::More => {
                 held = read_on(rt, input, at, held, place)?;
                 at = 0;
                 if held == 0 {
-                    return Ok(());
+                    break;
                 }
             }
         }
-        turns -= 1;
     }
     Ok(())
 }
@@ -142,22 +123,16 @@ fn main(rt: HostRuntime) -> io::Result<()> {
     let mut input = [0u8; SIZE];
     let mut out = [0u8; SIZE];
     let held = begin(&rt, &mut input)?;
-    let OpeningPart::Whole {
-        domain,
-        domain_end,
-        restart,
-        lifetime,
-        rows,
-        at,
-        end,
-    } = program::read_opening(&input[..held])
-    else {
-        return print_refused(&rt, 0, flow::NOT_OPEN);
+    let Ok(part) = program::read_opening(&input[..held]) else {
+        return print_refused(&rt, 0, Refusal::NotOpen);
     };
-    let shelf = program::shelf_of(&input[..held], rows, at);
-    let opened = opening::open(shelves::part(&input, domain, domain_end), restart, lifetime);
-    if opened.no != 0 {
-        return print_refused(&rt, 0, opened.no);
+    let shelf = program::shelf_of(&input[..held], part.rows, part.at);
+    let mut state = opening::closed();
+    let domain = shelves::part(&input, part.domain);
+    if let Err(refusal) = opening::open(&mut state, domain, part.restart, part.lifetime) {
+        return print_refused(&rt, 0, refusal);
     }
-    run(&rt, opened.state, shelf, &mut input, &mut out, end, held)
+    run(
+        &rt, &mut state, &shelf, &mut input, &mut out, part.end, held,
+    )
 }

@@ -1,87 +1,49 @@
-// The opening: document 01, "Opening, clock, tables". Values out of range are NOT OPEN, and hand back the closed state.
+// The opening: document 01, "Opening, clock, tables". Values out of range are NOT OPEN, and leave the closed state.
 #![tactic(auto)]
 
 ghost use Rattle.std.specs.Prelude.{◌≡◌};
 ghost use Rattle.rules.specs.Opening.{closed, open_rule};
-ghost use Rattle.opening.specs.Opening.{opening_of};
+ghost use Rattle.opening.specs.Opening.{Opened, opening_of};
 
+use flow::Refusal;
 use names::Name;
 use records::{Lifetime, Moment, Run, Session};
 use tables::{Runs, Sessions, State};
-
-// What an opening hands back: 0 and the state, or the refusal and the closed state.
-#[repr(C)]
-#[derive(Drop)]
-pub struct Opening {
-    pub no: u32,
-    pub state: State,
-}
 
 // The state on which every event is NOT OPEN.
 pub fn closed() -> State
     ensures { result ≡ closed }
 {
-    let run = Run::none();
-    let session = Session::none();
-    let name = Name::none();
     State {
         ready: false,
-        domain: name,
+        domain: Name::none(),
         restart: 0,
         lifetime: Lifetime(0),
         clock: Moment(0),
         last: 0,
         runs: Runs {
-            rows: [run; limits::RUNS],
+            rows: [Run::none(); limits::RUNS],
         },
         sessions: Sessions {
-            rows: [session; limits::SESSIONS],
+            rows: [Session::none(); limits::SESSIONS],
         },
     }
 }
 
-pub fn open(domain: &[u8], restart: u64, lifetime: u64) -> Opening
-    ensures { result ≡ opening_of (open_rule domain.now restart lifetime) }
+// Opens a server on a state, whatever was there. Where it refuses, it leaves the closed state.
+pub fn open(state: &mut State, domain: &[u8], restart: u64, lifetime: u64) -> Result<(), Refusal>
+    ensures { Opened (opening_of (open_rule domain.now restart lifetime)) state.new result }
 {
-    let mut state = closed();
-    if domain.len() == 0 {
-        return Opening {
-            no: flow::NOT_OPEN,
-            state: state,
-        };
+    *state = closed();
+    if domain.is_empty() || limits::NAME < domain.len() || limits::WORD < restart {
+        return Err(Refusal::NotOpen);
     }
-    if limits::NAME < domain.len() {
-        return Opening {
-            no: flow::NOT_OPEN,
-            state: state,
-        };
+    if lifetime < limits::LIFETIME_LEAST || limits::LIFETIME_MOST < lifetime {
+        return Err(Refusal::NotOpen);
     }
-    if limits::WORD < restart {
-        return Opening {
-            no: flow::NOT_OPEN,
-            state: state,
-        };
-    }
-    if lifetime < limits::LIFETIME_LEAST {
-        return Opening {
-            no: flow::NOT_OPEN,
-            state: state,
-        };
-    }
-    if limits::LIFETIME_MOST < lifetime {
-        return Opening {
-            no: flow::NOT_OPEN,
-            state: state,
-        };
-    }
-    let name = Name::of(domain);
-    let usual = Lifetime(lifetime as u32);
     state.ready = true;
-    state.domain = name;
+    state.domain = Name::of(domain);
     state.restart = restart;
-    state.lifetime = usual;
-    Opening {
-        no: 0,
-        state: state,
-    }
+    state.lifetime = Lifetime(lifetime as u32);
+    Ok(())
 }

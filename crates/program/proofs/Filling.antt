@@ -1,31 +1,17 @@
--- How the shelf is padded_rows: the rows read so far, and those that are left.
-use Rattle.flow.proofs.Tables.{set_next}
-use Prim.Native.Nat.{ℕ, suc, ◌+◌, ◌-◌, ◌<◌, ◌≤◌}
-use native.Mathlib.Nat.{sub-zero}
-use native.Mathlib.Omega.{arith}
-use mathlib.Core.Path.{◌≡◌, refl, sym, ap, ◌∙◌}
-use mathlib.Core.Logic.{⊎_elim}
-use mathlib.Core.List.{List, [], ◌∷◌, ◌++◌, append-nil, append_assoc}
-use lib.Dec.{leb}
-use lib.ListN.{length, set, replicate, length-append}
+-- How the shelf is filled: the rows read so far, and those that are left.
+use Rattle.std.proofs.Common.{ℕ, suc, ◌+◌, ◌-◌, ◌<◌, ◌≤◌, min, ◌≡◌, refl, sym, ap, ◌∙◌, ⊎_elim, arith, List, [], ◌∷◌, ◌++◌, append-nil, append_assoc, length, set, replicate, leb}
+use native.Mathlib.Nat.{sub-zero, min-eq_left, min-eq_right}
+use lib.ListN.{length-append}
 use lib.Seq.{take-append-le}
 use borrow.Author.Tests.{leb-true, leb-false}
-use Rattle.flow.specs.Choice.{pick}
 use Rattle.flow.proofs.Choices.{split}
-use Rattle.octets.specs.Octets.{least}
+use Rattle.flow.proofs.Tables.{set_next}
 use Rattle.limits.specs.Limits.{ROWS}
 use Rattle.shelves.specs.Shelf.{no_row}
 use Rattle.shelves.specs.declared.Row.{Row}
 use Rattle.shelves.specs.declared.Shelf.{Shelf}
 use Rattle.program.specs.Rows.{placed, rows_of, padded_rows, shelf_of}
 use Rattle.program.specs.declared.Placed.{Placed}
-
--- the lesser of two is neither's more
-pub least_both : (n a b : ℕ) → n ≡ least a b → (n ≤ a) × (n ≤ b)
-unfolding pick
-least_both n a b e =
-    ⊎_elim (λ k. let f : n ≡ a = e ∙ rw k in (omega arith, omega (arith, leb-true a b k)))
-    (λ k. let f : n ≡ b = e ∙ rw k in (omega (arith, leb-false a b k), omega arith)) (split (leb a b))
 
 -- one row, and then the rest
 rows_next : (n m : ℕ) (s : List ℕ) (at : ℕ) → n ≡ suc m → rows_of n s at ≡ (placed s at).row ∷ rows_of m s (placed s at).end
@@ -74,11 +60,10 @@ module _ (s : List ℕ) (count first : ℕ) (rows : List Row) (at i : ℕ) (w : 
       (rw (w.seam, take-append-le ROWS (w.read ++ rows_of (count - i) s at) (replicate ROWS no_row) m)
       (take-append-le ROWS w.read (rows_of (count - i) s at) n))
 
-  pub filling_done : (n : ℕ) → n ≡ least count ROWS → n ≤ i → ◌≡◌ {A = Shelf} (record { rows = rows; count = count }) (shelf_of s count first)
-  unfolding pick
-  filling_done n e h =
+  pub filling_done : min count ROWS ≤ i → ◌≡◌ {A = Shelf} (record { rows = rows; count = count }) (shelf_of s count first)
+  filling_done h =
       ap (λ (l : List Row). record { rows = l; count = count })
       (⊎_elim
-      (λ k. let f : n ≡ count = e ∙ rw k in all_read (omega arith))
-      (λ k. let f : n ≡ ROWS = e ∙ rw k in all_full (omega arith))
+      (λ k. let f : min count ROWS ≡ count = min-eq_left (leb-true count ROWS k) in all_read (omega arith))
+      (λ k. let l = leb-false count ROWS k in let f : min count ROWS ≡ ROWS = min-eq_right (omega arith) in all_full (omega arith))
       (split (leb count ROWS)))

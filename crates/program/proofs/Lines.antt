@@ -3,7 +3,7 @@ use Prim.Native.Nat.{ℕ, zero, suc, ◌+◌, ◌-◌, ◌*◌, ◌/◌, ◌%◌
 use native.Mathlib.Nat.{pow-succ'}
 use native.Mathlib.Numerals.{add-one, sub-one}
 use native.Mathlib.Omega.{arith}
-use mathlib.Core.Path.{◌≡◌, refl, sym, ap, ap₂, subst, ◌∙◌}
+use mathlib.Core.Path.{◌≡◌, refl, sym, ap, ap₂, ◌∙◌}
 use mathlib.Core.Bool.{Bool, true, false}
 use mathlib.Core.List.{List, [], ◌∷◌, ◌++◌, append-nil}
 use lib.Dec.{ltb, eqb}
@@ -13,8 +13,8 @@ use borrow.Author.Tests.{lt-ltb, le-ltb}
 use Rattle.limits.specs.Limits.{DIGITS}
 use Rattle.flow.specs.Choice.{pick}
 use Rattle.flow.specs.Front.{◌▹◌, front, Put}
-use Rattle.flow.proofs.Choices.{by-eq, by-ne, pick_all}
-use Rattle.flow.proofs.Fronts.{fields_length, fields_assoc, then_put}
+use Rattle.flow.proofs.Choices.{pick_all}
+use Rattle.flow.proofs.Fronts.{fields_length, fields_assoc, then_put, put_as}
 use Rattle.program.specs.Printed.{digit, decimal_in, decimal, pair, hex, dash, shown, line_of, line_room}
 
 -- ---- decimal
@@ -87,21 +87,18 @@ hex-more s i h =
 
 -- ---- what is put
 
-put_is : (x y : List ℕ) (at end : ℕ) (old new : List ℕ) → x ≡ y → Put x at end old new → Put y at end old new
-put_is x y at end old new e p = subst (λ z. Put z at end old new) e p
-
 -- one digit, whichever way it was made
 digit-is : (d e : ℕ) → d ≡ e → d ∷ [] ≡ e ∷ []
 digit-is d e p = ap (λ (x : ℕ). x ∷ []) p
 
 module _ (k n at : ℕ) (old new : List ℕ) (d : ℕ) where
   pub last-put : (end : ℕ) → n < 10 → d ≡ digit n → Put (d ∷ []) at end old new → Put (decimal_in k n) at end old new
-  last-put end h e p = put_is _ _ at end old new (digit-is d (digit n) e ∙ sym (decimal-last k n h)) p
+  last-put end h e p = put_as _ _ at end old new (digit-is d (digit n) e ∙ sym (decimal-last k n h)) p
 
   pub more-put : (mid end : ℕ) (m : List ℕ) → 10 ≤ n → n < 10 ^ (k + 1) → at + length (decimal_in k n) ≤ length old → d ≡ digit (n % 10)
       → Put (decimal_in (k - 1) (n / 10)) at mid old m → Put (d ∷ []) mid end m new → Put (decimal_in k n) at end old new
   more-put mid end m h l r e p q =
-      put_is _ _ at end old new (ap (λ (x : List ℕ). decimal_in (k - 1) (n / 10) ▹ x) (digit-is d (digit (n % 10)) e) ∙ sym (decimal-next k n h l))
+      put_as _ _ at end old new (ap (λ (x : List ℕ). decimal_in (k - 1) (n / 10) ▹ x) (digit-is d (digit (n % 10)) e) ∙ sym (decimal-next k n h l))
       (then_put (decimal_in (k - 1) (n / 10)) (d ∷ []) at mid end old m new (omega arith) p q)
 
   -- one digit has room
@@ -118,7 +115,7 @@ module _ (k n at : ℕ) (old new : List ℕ) (d : ℕ) where
 pub pair_put : (b at mid end : ℕ) (old m new : List ℕ) (d e : ℕ) → at + 2 ≤ length old → d ≡ digit (b / 16) → e ≡ digit (b % 16)
     → Put (d ∷ []) at mid old m → Put (e ∷ []) mid end m new → Put (pair b) at end old new
 pair_put b at mid end old m new d e h p q u v =
-    put_is _ _ at end old new (ap₂ (λ (x y : List ℕ). x ▹ y) (digit-is d (digit (b / 16)) p) (digit-is e (digit (b % 16)) q))
+    put_as _ _ at end old new (ap₂ (λ (x y : List ℕ). x ▹ y) (digit-is d (digit (b / 16)) p) (digit-is e (digit (b % 16)) q))
     (then_put (d ∷ []) (e ∷ []) at mid end old m new (omega arith) u v)
 
 -- i octets of s have been put
@@ -144,12 +141,12 @@ module _ (s : List ℕ) (at i next : ℕ) (old new : List ℕ) (w : Hexed s at i
       record {
         within = omega arith;
         put =
-            put_is _ _ at end old last (sym (hex-more s i h)) (then_put (hex (take i s)) (pair (get_or s i 0)) at next end old new last (omega arith) w.put p);
+            put_as _ _ at end old last (sym (hex-more s i h)) (then_put (hex (take i s)) (pair (get_or s i 0)) at next end old new last (omega arith) w.put p);
         long = l ∙ w.long;
       }
 
   pub hexed_all : length s ≤ i → Put (hex s) at next old new
-  hexed_all h = put_is _ _ at next old new (ap hex (take_all i s (omega arith))) w.put
+  hexed_all h = put_as _ _ at next old new (ap hex (take_all i s (omega arith))) w.put
 
 -- ---- the answer, or "-"
 
@@ -160,12 +157,6 @@ shown-room answer =
 module _ (answer : List ℕ) (at end : ℕ) (old new : List ℕ) where
   pub shown_ends : Put (shown answer) at end old new → end ≤ at + 1 + 2 * length answer
   shown_ends p = omega (arith, p.place, shown-room answer)
-
-  pub dash-put : length answer ≡ 0 → Put dash at end old new → Put (shown answer) at end old new
-  dash-put h p = put_is _ _ at end old new (by-eq _ _ _ _ _ h refl) p
-
-  pub hex-put : (length answer ≡ 0 → ⊥) → Put (hex answer) at end old new → Put (shown answer) at end old new
-  hex-put h p = put_is _ _ at end old new (by-ne _ _ _ _ _ h refl) p
 
 -- how long a line may be
 pub line-long : (place number : ℕ) (answer : List ℕ) → length (line_of place number answer) ≤ line_room (length answer)

@@ -1,26 +1,26 @@
 -- 01, "The event program": the rows as the shelf holds them.
-use Rattle.std.specs.Prelude.{ℕ, zero, suc, Bool, List, [], ◌∷◌, ◌++◌, take, replicate}
+use Rattle.std.specs.Prelude.{ℕ, zero, suc, Result, Ok, Err, List, [], ◌∷◌, ◌++◌, take, replicate}
 use Rattle.names.specs.Name.{name_of}
 use Rattle.limits.specs.Limits.{ROWS}
 use Rattle.shelves.specs.Shelf.{no_row, part}
 use Rattle.shelves.specs.declared.Row.{Row}
 use Rattle.shelves.specs.declared.Shelf.{Shelf}
-use Rattle.program.specs.OpeningPart.{row_at, with_row}
+use Rattle.program.specs.OpeningPart.{row_at}
 use Rattle.program.specs.declared.Placed.{Placed}
+use Rattle.program.specs.declared.RowAt.{RowAt}
+use Rattle.program.specs.declared.Stop.{Stop}
 
 -- a row whose names stand in s
-abbrev pub row_of : List ℕ → ℕ → ℕ → ℕ → ℕ → Bool → ℕ → ℕ → Row
-row_of s peer peer_end fqdn fqdn_end identity group required =
-    record { peer = name_of (part s peer peer_end); fqdn = name_of (part s fqdn fqdn_end); identity = identity; group = group; required = required }
+abbrev pub row_of : List ℕ → RowAt → Row
+row_of s w = record { peer = name_of (part s w.peer); fqdn = name_of (part s w.fqdn); identity = w.identity; group = w.group; required = w.required }
 
--- the row at a place, and the place after it; where no row stands, one that matches nothing
-abbrev pub no_place : ℕ → Placed
-no_place at = record { row = no_row; end = at }
+-- the row that was read, and the place after it; where no row stands, one that matches nothing
+abbrev pub placed_as : List ℕ → ℕ → Result RowAt Stop → Placed
+placed_as s at (Ok w) = record { row = row_of s w; end = w.end }
+placed_as s at (Err e) = record { row = no_row; end = at }
 
 abbrev pub placed : List ℕ → ℕ → Placed
-placed s at =
-    with_row (no_place at) (no_place at) (row_at s at) λ peer peer_end fqdn fqdn_end identity group required end.
-    record { row = row_of s peer peer_end fqdn fqdn_end identity group required; end = end }
+placed s at = placed_as s at (row_at s at)
 
 -- n rows, one after another
 unfoldable pub rows_of : ℕ → List ℕ → ℕ → List Row

@@ -5,74 +5,54 @@
 
 ghost use Rattle.std.specs.Prelude.{◌≡◌, ◌+◌, ◌*◌, ◌≤◌, ◌<◌, ◌^◌, length};
 ghost use Rattle.flow.specs.Front.{Wrote, Put};
-ghost use Rattle.program.specs.Cut.{cut_in, cut_number, cut_text};
-ghost use Rattle.program.specs.OpeningPart.{row_stopped, stopped, row_at, rows_at, opening_part_of};
-ghost use Rattle.program.specs.Rows.{row_of, no_place, placed, shelf_of};
-ghost use Rattle.program.specs.Frame.{frame_stopped, frame_at};
+ghost use Rattle.program.specs.Cut.{cut_in, cut_number, cut_text, stopped, number_in, text_in};
+ghost use Rattle.program.specs.OpeningPart.{row_at, rows_at, opening_part_of};
+ghost use Rattle.program.specs.Rows.{row_of, placed, shelf_of};
+ghost use Rattle.program.specs.Frame.{frame_at};
 ghost use Rattle.program.specs.Printed.{digit, decimal_in, decimal, pair, hex, shown, line_of, line_room};
 
-use line::{Num, Span};
+use line::Span;
 use names::Name;
 use shelves::{Row, Shelf};
 
-// What stands at the front of the input so far: the opening part, with where its domain and its first row start and where it ends; the front
-// of one; or neither.
+// Why nothing whole stands at a place: more input may mend it, or no further octet can.
 #[derive(Clone, Copy)]
-pub enum OpeningPart {
-    Whole {
-        domain: usize,
-        domain_end: usize,
-        restart: u64,
-        lifetime: u64,
-        rows: usize,
-        at: usize,
-        end: usize,
-    },
+pub enum Stop {
     More,
     Bad,
 }
 
-// What stands at a place where a row is to be.
+// The opening part: its domain, its numbers, where its first row starts, and where it ends.
 #[derive(Clone, Copy)]
-pub enum RowRead {
-    At {
-        peer: usize,
-        peer_end: usize,
-        fqdn: usize,
-        fqdn_end: usize,
-        identity: bool,
-        group: u8,
-        required: u32,
-        end: usize,
-    },
-    More,
-    Bad,
+pub struct OpeningPart {
+    pub domain: Span,
+    pub restart: u64,
+    pub lifetime: u64,
+    pub rows: usize,
+    pub at: usize,
+    pub end: usize,
 }
 
-// What stands where rows are to be, and where the last ends.
+// A row where it stands: its two names, what it says, and the place after it.
 #[derive(Clone, Copy)]
-pub enum Rows {
-    End(usize),
-    More,
-    Bad,
+pub struct RowAt {
+    pub peer: Span,
+    pub fqdn: Span,
+    pub identity: bool,
+    pub group: u8,
+    pub required: u32,
+    pub end: usize,
 }
 
-// What stands where an event is to be: its body, from a place up to an end.
-#[derive(Clone, Copy)]
-pub enum Frame {
-    Body(usize, usize),
-    More,
-    Bad,
-}
-
-// A row, and the place after it.
+// A row as the shelf holds it, and the place after it.
 #[derive(Clone, Copy)]
 pub struct Placed {
     pub row: Row,
     pub end: usize,
 }
 
-// Whether the input ends before a number of at most k octets does.
+// Whether the input ends before a number of at most k octets does. Octet by octet, as `line` reads one, and as the definition has it.
+#[tactic(auto, unfolding(crate::specs::Cut::cut_in, flow::specs::Choice::pick))]
 fn cut_in(s: &[u8], at: usize, k: usize) -> bool
     ensures { result ≡ cut_in k s.now at }
 {
@@ -96,234 +76,162 @@ fn cut_number(s: &[u8], at: usize) -> bool
 }
 
 // Whether the input ends within a text of lo to hi octets.
+#[tactic(auto, unfolding(line::specs::Number::with_num, line::specs::Text::with_span, flow::specs::Choice::pick))]
 fn cut_text(s: &[u8], at: usize, lo: usize, hi: usize) -> bool
     ensures { result ≡ cut_text s.now at lo hi }
 {
-    let Num::Value(n, start) = line::number(s, at, hi as u64) else {
+    let Some((n, start)) = line::number(s, at, hi as u64) else {
         return cut_number(s, at);
     };
-    if n < lo as u64 {
-        return false;
-    }
-    let Span::At(_, _) = line::octets(s, start, n as usize) else {
-        return true;
-    };
-    false
+    lo as u64 <= n && line::octets(s, start, n as usize).is_none()
 }
 
-// What a field that is not whole makes of the row, of the opening part, of the event.
-fn row_stopped(cut: bool) -> RowRead
-    ensures { result ≡ row_stopped cut }
-{
-    if cut {
-        return RowRead::More;
-    }
-    RowRead::Bad
-}
-
-fn stopped(cut: bool) -> OpeningPart
+// Why a field is not whole.
+#[tactic(auto, unfolding(flow::specs::Choice::pick))]
+fn stopped(cut: bool) -> Stop
     ensures { result ≡ stopped cut }
 {
-    if cut {
-        return OpeningPart::More;
-    }
-    OpeningPart::Bad
+    if cut { Stop::More } else { Stop::Bad }
 }
 
-fn frame_stopped(cut: bool) -> Frame
-    ensures { result ≡ frame_stopped cut }
+// A number of at most max, and the place after it; or why there is none.
+#[tactic(auto, unfolding(line::specs::Number::with_num))]
+fn number(s: &[u8], at: usize, max: u64) -> Result<(u64, usize), Stop>
+    ensures { result ≡ number_in s.now at max }
 {
-    if cut {
-        return Frame::More;
-    }
-    Frame::Bad
+    line::number(s, at, max).ok_or_else(|| stopped(cut_number(s, at)))
+}
+
+// A text of lo to hi octets, or why there is none.
+#[tactic(auto, unfolding(line::specs::Text::with_span))]
+fn text(s: &[u8], at: usize, lo: usize, hi: usize) -> Result<Span, Stop>
+    ensures { result ≡ text_in s.now at lo hi }
+{
+    line::text(s, at, lo, hi).ok_or_else(|| stopped(cut_text(s, at, lo, hi)))
 }
 
 // A row: peer text, FQDN text, identity octet 0 or 1, group, required application.
-fn read_row(s: &[u8], at: usize) -> RowRead
+#[tactic(auto, unfolding(crate::specs::Cut::with_read, line::specs::Number::with_num, flow::specs::Choice::pick))]
+fn read_row(s: &[u8], at: usize) -> Result<RowAt, Stop>
     ensures { result ≡ row_at s.now at }
 {
-    let Span::At(peer, peer_end) = line::name(s, at) else {
-        return row_stopped(cut_text(s, at, 1, limits::NAME));
-    };
-    let Span::At(fqdn, fqdn_end) = line::name(s, peer_end) else {
-        return row_stopped(cut_text(s, peer_end, 1, limits::NAME));
-    };
-    if s.len() <= fqdn_end {
-        return RowRead::More;
+    let peer = text(s, at, 1, limits::NAME)?;
+    let fqdn = text(s, peer.end, 1, limits::NAME)?;
+    if s.len() <= fqdn.end {
+        return Err(Stop::More);
     }
-    let identity = s[fqdn_end];
+    let identity = s[fqdn.end];
     if 1 < identity {
-        return RowRead::Bad;
+        return Err(Stop::Bad);
     }
-    let Num::Value(group, a) = line::number(s, fqdn_end + 1, limits::GROUP) else {
-        return row_stopped(cut_number(s, fqdn_end + 1));
-    };
-    let Num::Value(required, end) = line::number(s, a, limits::WORD) else {
-        return row_stopped(cut_number(s, a));
-    };
-    RowRead::At {
+    let (group, a) = number(s, fqdn.end + 1, limits::GROUP)?;
+    let (required, end) = number(s, a, limits::WORD)?;
+    Ok(RowAt {
         peer,
-        peer_end,
         fqdn,
-        fqdn_end,
         identity: identity == 1,
         group: group as u8,
         required: required as u32,
         end,
-    }
+    })
 }
 
-// n rows, one after another.
-fn read_rows(s: &[u8], at: usize, n: usize) -> Rows
+// n rows, one after another: the place after them.
+#[tactic(auto, unfolding(crate::specs::Cut::with_read, crate::specs::OpeningPart::rows_at))]
+fn read_rows(s: &[u8], at: usize, n: usize) -> Result<usize, Stop>
     ensures { result ≡ rows_at n s.now at }
 {
     if n == 0 {
-        return Rows::End(at);
+        return Ok(at);
     }
-    match read_row(s, at) {
-        RowRead::At {
-            peer: _,
-            peer_end: _,
-            fqdn: _,
-            fqdn_end: _,
-            identity: _,
-            group: _,
-            required: _,
-            end,
-        } => read_rows(s, end, n - 1),
-        RowRead::More => Rows::More,
-        RowRead::Bad => Rows::Bad,
-    }
+    let row = read_row(s, at)?;
+    read_rows(s, row.end, n - 1)
 }
 
 // The opening part: domain text, restart, default lifetime, row count, rows.
-pub fn read_opening(s: &[u8]) -> OpeningPart
+#[tactic(auto, unfolding(crate::specs::Cut::with_read, crate::specs::OpeningPart::opening_part_of, flow::specs::Choice::pick))]
+pub fn read_opening(s: &[u8]) -> Result<OpeningPart, Stop>
     ensures { result ≡ opening_part_of s.now }
 {
-    let Span::At(domain, domain_end) = line::name(s, 0) else {
-        return stopped(cut_text(s, 0, 1, limits::NAME));
-    };
-    let Num::Value(restart, a) = line::number(s, domain_end, limits::WORD) else {
-        return stopped(cut_number(s, domain_end));
-    };
-    let Num::Value(lifetime, b) = line::number(s, a, limits::LIFETIME_MOST) else {
-        return stopped(cut_number(s, a));
-    };
+    let domain = text(s, 0, 1, limits::NAME)?;
+    let (restart, a) = number(s, domain.end, limits::WORD)?;
+    let (lifetime, b) = number(s, a, limits::LIFETIME_MOST)?;
     if lifetime < limits::LIFETIME_LEAST {
-        return OpeningPart::Bad;
+        return Err(Stop::Bad);
     }
-    let Num::Value(rows, at) = line::number(s, b, limits::ROWS as u64) else {
-        return stopped(cut_number(s, b));
-    };
-    match read_rows(s, at, rows as usize) {
-        Rows::End(end) => OpeningPart::Whole {
-            domain,
-            domain_end,
-            restart,
-            lifetime,
-            rows: rows as usize,
-            at,
-            end,
-        },
-        Rows::More => OpeningPart::More,
-        Rows::Bad => OpeningPart::Bad,
-    }
+    let (rows, at) = number(s, b, limits::ROWS as u64)?;
+    let end = read_rows(s, at, rows as usize)?;
+    Ok(OpeningPart {
+        domain,
+        restart,
+        lifetime,
+        rows: rows as usize,
+        at,
+        end,
+    })
 }
 
 // A row as the shelf holds it: its names by value.
-fn row_of(
-    s: &[u8],
-    peer: usize,
-    peerend: usize,
-    fqdn: usize,
-    fqdnend: usize,
-    identity: bool,
-    group: u8,
-    required: u32,
-) -> Row
-    ensures { result ≡ row_of s.now peer peerend fqdn fqdnend identity group required }
+fn row_of(s: &[u8], row: RowAt) -> Row
+    ensures { result ≡ row_of s.now row }
 {
     Row {
-        peer: Name::of(shelves::part(s, peer, peerend)),
-        fqdn: Name::of(shelves::part(s, fqdn, fqdnend)),
-        identity,
-        group,
-        required,
+        peer: Name::of(shelves::part(s, row.peer)),
+        fqdn: Name::of(shelves::part(s, row.fqdn)),
+        identity: row.identity,
+        group: row.group,
+        required: row.required,
     }
 }
 
-// Where no row stands: one that matches nothing.
-fn no_place(at: usize) -> Placed
-    ensures { result ≡ no_place at }
-{
-    Placed {
-        row: Row::none(),
-        end: at,
-    }
-}
-
-// The row at a place, as the shelf holds it, and the place after it.
+// The row at a place, as the shelf holds it, and the place after it; where no row stands, one that matches nothing.
 fn place(s: &[u8], at: usize) -> Placed
     ensures { result ≡ placed s.now at }
 {
     match read_row(s, at) {
-        RowRead::At {
-            peer,
-            peer_end,
-            fqdn,
-            fqdn_end,
-            identity,
-            group,
-            required,
-            end,
-        } => Placed {
-            row: row_of(s, peer, peer_end, fqdn, fqdn_end, identity, group, required),
-            end,
+        Ok(row) => Placed {
+            row: row_of(s, row),
+            end: row.end,
         },
-        RowRead::More => no_place(at),
-        RowRead::Bad => no_place(at),
+        Err(_) => Placed {
+            row: Row::none(),
+            end: at,
+        },
     }
 }
 
-// The shelf of the rows that stand at a place.
+// The shelf of the rows that stand at a place. They are put by index: of what `iter_mut().take(count)` lends, no proof knows what is left there.
 pub fn shelf_of(s: &[u8], count: usize, at: usize) -> Shelf
     ensures { result ≡ shelf_of s.now count at }
 {
-    let none = Row::none();
-    let mut rows = [none; limits::ROWS];
+    let mut rows = [Row::none(); limits::ROWS];
     let mut next = at;
-    let mut i: usize = 0;
-    let n = octets::least(count, limits::ROWS);
-    while i < n {
+    for i in 0..count.min(limits::ROWS) {
         let placed = place(s, next);
-        let row = placed.row;
-        rows[i] = row;
+        rows[i] = placed.row;
         next = placed.end;
-        i += 1;
     }
     Shelf { rows, count }
 }
 
 // An event: its body length, and then its body.
-pub fn read_frame(s: &[u8], at: usize) -> Frame
+#[tactic(auto, unfolding(crate::specs::Frame::frame_at))]
+pub fn read_frame(s: &[u8], at: usize) -> Result<Span, Stop>
     ensures { result ≡ frame_at s.now at }
 {
-    let Span::At(start, end) = line::text(s, at, 1, limits::BODY) else {
-        return frame_stopped(cut_text(s, at, 1, limits::BODY));
-    };
-    Frame::Body(start, end)
+    text(s, at, 1, limits::BODY)
 }
 
 // ---- What the event program prints: a line for each event. Document 01, "The event program".
 
-const BLANK: u8 = 32;
+const BLANK: u8 = b' ';
 
-const DASH: u8 = 45;
+const DASH: u8 = b'-';
 
-const NEWLINE: u8 = 10;
+const NEWLINE: u8 = b'\n';
 
 // The digit of a number below 16.
+#[tactic(auto, unfolding(flow::specs::Choice::pick))]
 fn digit(d: u8) -> u8
     requires { d < 16 }
     ensures { result ≡ digit d }
@@ -370,33 +278,32 @@ fn put_hex_at(out: &mut [u8], at: usize, s: &[u8]) -> usize
     ensures { Put (hex s.now) at result out.old out.new }
 {
     let mut next = at;
-    let mut i: usize = 0;
-    while i < s.len() {
-        next = put_pair_at(out, next, s[i]);
-        i += 1;
+    for b in s {
+        next = put_pair_at(out, next, *b);
     }
     next
 }
 
 // An answer in hex, or "-" where there is none.
+#[tactic(auto, unfolding(flow::specs::Choice::pick))]
 fn put_shown_at(out: &mut [u8], at: usize, answer: &[u8]) -> usize
     requires { at + 1 + 2 * length answer.now ≤ length out.old }
     ensures { Put (shown answer.now) at result out.old out.new }
 {
-    if answer.len() == 0 {
+    if answer.is_empty() {
         return line::put_octet_at(out, at, DASH);
     }
     put_hex_at(out, at, answer)
 }
 
-// The line of an event: its place, the returned number, and the answer.
+// The line of an event: its place, the returned number, and the answer. It prints any number, so no refusal is asked for.
 pub fn put_line(out: &mut [u8], place: u64, number: u32, answer: &[u8]) -> usize
     requires { line_room (length answer.now) ≤ length out.old }
     ensures { Wrote (line_of place number answer.now) result out.old out.new }
 {
     let a = put_decimal_at(out, 0, place);
     let b = line::put_octet_at(out, a, BLANK);
-    let c = put_decimal_at(out, b, number as u64);
+    let c = put_decimal_at(out, b, u64::from(number));
     let d = line::put_octet_at(out, c, BLANK);
     let e = put_shown_at(out, d, answer);
     line::put_octet_at(out, e, NEWLINE)

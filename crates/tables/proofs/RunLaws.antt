@@ -10,7 +10,7 @@ use lib.ListN.{length, get_or, set, replicate, length-set, length-replicate, get
 use borrow.Author.Tests.{not-false}
 use Rattle.limits.specs.Limits.{RUNS}
 use Rattle.flow.specs.Search.{first}
-use Rattle.flow.specs.declared.Found.TheVariants.{At, Nothing}
+use Rattle.std.specs.Prelude.{Some, None}
 use Rattle.flow.proofs.Searches.{first-same}
 use Rattle.flow.proofs.Tables.{passed, missed, none_found, put_all, put_pairs, put-inside, set-map}
 use Rattle.octets.proofs.Laws.{sides}
@@ -22,7 +22,7 @@ use Rattle.tables.specs.declared.Runs.{Runs}
 -- ---- of any rows
 
 -- past the rows there is none, so what is not found is at no place at all
-pub missed_anywhere : {A : Type 0} (p : A → Bool) (d : A) (l : List A) → p d ≡ false → first p l ≡ Nothing → (k : ℕ) → p (get_or l k d) ≡ false
+pub missed_anywhere : {A : Type 0} (p : A → Bool) (d : A) (l : List A) → p d ≡ false → first p l ≡ None → (k : ℕ) → p (get_or l k d) ≡ false
 missed_anywhere p d l n e k = ⊎_elim (missed p d l e k) (λ h. ap p (get_or-eq_default l d h) ∙ n) (sides k (length l))
 
 pub get_d_none : {A : Type 0} (n i : ℕ) (d : A) → get_or (replicate n d) i d ≡ d
@@ -69,32 +69,32 @@ pub record IsPlace (runs : Runs) (i : ℕ) : Type 0 where
 
 module _ (runs : Runs) where
   module _ (n t : ℕ) where
-    pub run-found : (i : ℕ) → run_of n t runs ≡ At i → is_run n t (run_in runs i) ≡ true
+    pub run-found : (i : ℕ) → run_of n t runs ≡ Some i → is_run n t (run_in runs i) ≡ true
     unfolding run_of run_in
     run-found i e = (passed (is_run n t) no_run runs.rows i e).passes
 
-    pub run-place : (i : ℕ) → run_of n t runs ≡ At i → IsPlace runs i
+    pub run-place : (i : ℕ) → run_of n t runs ≡ Some i → IsPlace runs i
     unfolding run_of
     run-place i e = record { inside = (passed (is_run n t) no_run runs.rows i e).inside }
 
-    pub run-missed : run_of n t runs ≡ Nothing → (k : ℕ) → is_run n t (run_in runs k) ≡ false
+    pub run-missed : run_of n t runs ≡ None → (k : ℕ) → is_run n t (run_in runs k) ≡ false
     unfolding run_of run_in
     run-missed e k = missed_anywhere (is_run n t) no_run runs.rows (none_is n t) e k
 
-    pub run-nowhere : ((k : ℕ) → is_run n t (run_in runs k) ≡ false) → run_of n t runs ≡ Nothing
+    pub run-nowhere : ((k : ℕ) → is_run n t (run_in runs k) ≡ false) → run_of n t runs ≡ None
     unfolding run_of run_in
     run-nowhere h = none_found (is_run n t) no_run runs.rows (λ k _. h k)
 
-  pub other_missed : (n : ℕ) (rand : List ℕ) (t : ℕ) → other_of n rand t runs ≡ Nothing → (k : ℕ) → is_other n rand t (run_in runs k) ≡ false
+  pub other_missed : (n : ℕ) (rand : List ℕ) (t : ℕ) → other_of n rand t runs ≡ None → (k : ℕ) → is_other n rand t (run_in runs k) ≡ false
   unfolding other_of run_in
   other_missed n rand t e k = missed_anywhere (is_other n rand t) no_run runs.rows (none_other n rand t) e k
 
-  pub free_place : (t i : ℕ) → free_run t runs ≡ At i → IsPlace runs i
+  pub free_place : (t i : ℕ) → free_run t runs ≡ Some i → IsPlace runs i
   unfolding free_run
   free_place t i e = record { inside = (passed (is_free t) no_run runs.rows i e).inside }
 
   -- where no place is free, a run is open at each
-  pub free_missed : (t : ℕ) → WholeRuns runs → free_run t runs ≡ Nothing → (i : ℕ) → i < RUNS → is_open t (run_in runs i) ≡ true
+  pub free_missed : (t : ℕ) → WholeRuns runs → free_run t runs ≡ None → (i : ℕ) → i < RUNS → is_open t (run_in runs i) ≡ true
   unfolding free_run run_in
   free_missed t w e i h = not-false _ (missed (is_free t) no_run runs.rows e i (omega (arith, w.places)))
 

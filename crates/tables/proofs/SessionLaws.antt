@@ -9,9 +9,10 @@ use mathlib.Core.List.{List, map}
 use lib.ListN.{length, get_or, length-set, length-replicate}
 use borrow.Author.Tests.{le-ltb, not-true, not-false}
 use Rattle.limits.specs.Limits.{SESSIONS}
-use Rattle.flow.specs.Search.{first, or_else}
-use Rattle.flow.specs.declared.Found.{Found}
-use Rattle.flow.specs.declared.Found.TheVariants.{At, Nothing}
+use Rattle.flow.specs.Search.{first}
+use Rattle.std.specs.Prelude.{Option}
+use Rattle.std.specs.Prelude.{Some, None}
+use Rattle.std.specs.Option.{option_or}
 use Rattle.flow.proofs.Choices.{split}
 use Rattle.flow.proofs.Searches.{first-same}
 use Rattle.flow.proofs.Tables.{passed, missed, put_all, put_pairs, put-inside, set-map}
@@ -42,24 +43,24 @@ none-and t b = rw (none_over t)
 
 module _ (sessions : Sessions) where
   module _ (impi : List ℕ) (t : ℕ) where
-    pub own-found : (j : ℕ) → own_of impi t sessions ≡ At j → is_own impi t (session_in sessions j) ≡ true
+    pub own-found : (j : ℕ) → own_of impi t sessions ≡ Some j → is_own impi t (session_in sessions j) ≡ true
     unfolding own_of session_in
     own-found j e = (passed (is_own impi t) no_session sessions.rows j e).passes
 
-    pub own-missed : own_of impi t sessions ≡ Nothing → (k : ℕ) → is_own impi t (session_in sessions k) ≡ false
+    pub own-missed : own_of impi t sessions ≡ None → (k : ℕ) → is_own impi t (session_in sessions k) ≡ false
     unfolding own_of session_in is_own
     own-missed e k = missed_anywhere (is_own impi t) no_session sessions.rows (none-and t _) e k
 
-  pub rand_missed : (rand : List ℕ) (t : ℕ) → rand_of rand t sessions ≡ Nothing → (k : ℕ) → has_rand rand t (session_in sessions k) ≡ false
+  pub rand_missed : (rand : List ℕ) (t : ℕ) → rand_of rand t sessions ≡ None → (k : ℕ) → has_rand rand t (session_in sessions k) ≡ false
   unfolding rand_of session_in has_rand
   rand_missed rand t e k = missed_anywhere (has_rand rand t) no_session sessions.rows (none-and t _) e k
 
   module _ (text domain : List ℕ) (t : ℕ) where
-    pub named-found : (j : ℕ) → named_of text domain t sessions ≡ At j → is_named text domain t (session_in sessions j) ≡ true
+    pub named-found : (j : ℕ) → named_of text domain t sessions ≡ Some j → is_named text domain t (session_in sessions j) ≡ true
     unfolding named_of session_in
     named-found j e = (passed (is_named text domain t) no_session sessions.rows j e).passes
 
-    pub named-missed : named_of text domain t sessions ≡ Nothing → (k : ℕ) → is_named text domain t (session_in sessions k) ≡ false
+    pub named-missed : named_of text domain t sessions ≡ None → (k : ℕ) → is_named text domain t (session_in sessions k) ≡ false
     unfolding named_of session_in is_named
     named-missed e k = missed_anywhere (is_named text domain t) no_session sessions.rows (none-and t _) e k
 
@@ -68,18 +69,18 @@ module _ (sessions : Sessions) where
 -- at the student's own, or at one that is over where the student has none
 data Goes (impi : List ℕ) (t : ℕ) (sessions : Sessions) (j : ℕ) : Type 0 where
   own : j < length sessions.rows → is_own impi t (get_or sessions.rows j no_session) ≡ true → Goes impi t sessions j
-  free : j < length sessions.rows → is_live t (get_or sessions.rows j no_session) ≡ false → first (is_own impi t) sessions.rows ≡ Nothing → Goes impi t sessions j
+  free : j < length sessions.rows → is_live t (get_or sessions.rows j no_session) ≡ false → first (is_own impi t) sessions.rows ≡ None → Goes impi t sessions j
 
-goes : (impi : List ℕ) (t : ℕ) (sessions : Sessions) (j : ℕ) → place_for impi t sessions ≡ At j → Goes impi t sessions j
-unfolding place_for or_else
+goes : (impi : List ℕ) (t : ℕ) (sessions : Sessions) (j : ℕ) → place_for impi t sessions ≡ Some j → Goes impi t sessions j
+unfolding place_for
 goes impi t sessions j e = go (first (is_own impi t) sessions.rows) refl e
   where
-    go : (f : Found) → first (is_own impi t) sessions.rows ≡ f → or_else f (first (is_over t) sessions.rows) ≡ At j → Goes impi t sessions j
-    go (At k) q h =
+    go : (f : Option ℕ) → first (is_own impi t) sessions.rows ≡ f → option_or f (first (is_over t) sessions.rows) ≡ Some j → Goes impi t sessions j
+    go (Some k) q h =
         let m : k ≡ j = cc in
-        let p = passed (is_own impi t) no_session sessions.rows j (q ∙ ap At m) in
+        let p = passed (is_own impi t) no_session sessions.rows j (q ∙ ap Some m) in
         own p.inside p.passes
-    go Nothing q h =
+    go None q h =
         let p = passed (is_over t) no_session sessions.rows j h in
         free p.inside (not-true _ p.passes) q
 
@@ -87,20 +88,19 @@ goes-inside : {impi : List ℕ} {t : ℕ} {sessions : Sessions} {j : ℕ} → Go
 goes-inside (own i e) = i
 goes-inside (free i e m) = i
 
-or_else-nothing : (f g : Found) → or_else f g ≡ Nothing → (f ≡ Nothing) × (g ≡ Nothing)
-unfolding or_else
-or_else-nothing (At i) g e = let z : ◌≡◌ {A = ℕ} 0 1 = cc in absurd (omega arith)
-or_else-nothing Nothing g e = (refl, e)
+nothing-in-both : (f g : Option ℕ) → option_or f g ≡ None → (f ≡ None) × (g ≡ None)
+nothing-in-both (Some i) g e = let z : ◌≡◌ {A = ℕ} 0 1 = cc in absurd (omega arith)
+nothing-in-both None g e = (refl, e)
 
 module _ (impi : List ℕ) (t : ℕ) (sessions : Sessions) where
   -- where a session has no place, as many are live as may be, and none is the student's
-  pub place-live : WholeSessions sessions → place_for impi t sessions ≡ Nothing → (j : ℕ) → j < SESSIONS → is_live t (session_in sessions j) ≡ true
+  pub place-live : WholeSessions sessions → place_for impi t sessions ≡ None → (j : ℕ) → j < SESSIONS → is_live t (session_in sessions j) ≡ true
   unfolding place_for session_in
-  place-live w e j h = not-false _ (missed (is_over t) no_session sessions.rows (or_else-nothing _ _ e).1 j (omega (arith, w.places)))
+  place-live w e j h = not-false _ (missed (is_over t) no_session sessions.rows (nothing-in-both _ _ e).1 j (omega (arith, w.places)))
 
-  pub place-others : place_for impi t sessions ≡ Nothing → (j : ℕ) → is_own impi t (session_in sessions j) ≡ false
+  pub place-others : place_for impi t sessions ≡ None → (j : ℕ) → is_own impi t (session_in sessions j) ≡ false
   unfolding place_for
-  place-others e j = own-missed sessions impi t (unfold own_of in (or_else-nothing _ _ e).0) j
+  place-others e j = own-missed sessions impi t (unfold own_of in (nothing-in-both _ _ e).0) j
 
 -- ---- what was put
 
@@ -114,7 +114,7 @@ module _ (sessions : Sessions) (j : ℕ) (x : Session) where
   unfolding put_session
   session-put_whole w = record { places = length-set sessions.rows j x ∙ w.places }
 
-  module _ (impi : List ℕ) (t : ℕ) (e : place_for impi t sessions ≡ At j) where
+  module _ (impi : List ℕ) (t : ℕ) (e : place_for impi t sessions ≡ Some j) where
     pub session-put-has : Has (put_session sessions j x) x
     session-put-has =
         record {
@@ -186,8 +186,8 @@ module _ (e : Session → Session) (sessions : Sessions) where
       → place_for impi t (map_sessions e sessions) ≡ place_for impi t sessions
   unfolding place_for map_sessions
   place_mapped impi t h g =
-      ap (λ (f : Found). or_else f (first (is_over t) (map e sessions.rows))) (first-same (is_own impi t) (is_own impi t) e h 0 sessions.rows)
-      ∙ ap (or_else (first (is_own impi t) sessions.rows)) (first-same (is_over t) (is_over t) e (λ x. rw (g x)) 0 sessions.rows)
+      ap (λ (f : Option ℕ). option_or f (first (is_over t) (map e sessions.rows))) (first-same (is_own impi t) (is_own impi t) e h 0 sessions.rows)
+      ∙ ap (option_or (first (is_own impi t) sessions.rows)) (first-same (is_over t) (is_over t) e (λ x. rw (g x)) 0 sessions.rows)
 
   pub session-put_mapped : (j : ℕ) (x : Session) → map_sessions e (put_session sessions j x) ≡ put_session (map_sessions e sessions) j (e x)
   unfolding map_sessions put_session

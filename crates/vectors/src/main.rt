@@ -2,383 +2,286 @@
 // were run and how many came out equal. data/README.md says where the files come from and how they are laid out.
 #![tactic(auto)]
 
-ghost use Rattle.std.specs.Prelude.{◌≡◌, ◌+◌, ◌*◌, ◌<◌, ◌≤◌, length, IfOk};
+ghost use Rattle.std.specs.Prelude.{◌≡◌, ◌+◌, ◌*◌, ◌^◌, ◌<◌, ◌≤◌, ◌↔◌, if◌then◌else◌, length, IfOk, IfSome, SomeIff, IsTrue};
+ghost use Rattle.btid.specs.Base64.{base64};
+ghost use Rattle.sha256.specs.Digest.{LIMIT, sha256_of};
+ghost use Rattle.hmac.specs.Hmac.{hmac_of};
 
+use sha256::DIGEST;
 use std::fs::File;
-use std::io;
 use std::io::{Eprint, Print, Read};
-use std::num::wrapping_add_u64 as plus;
 use std::rt::Files;
+use std::{fmt, io};
 
-// The octets of a field's first line.
-const HEAD: usize = 18;
+// A field's first line: two numbers of so many digits, a space between them, and the end of the line.
+const DIGITS: usize = 8;
+
+const HEAD: usize = 2 * DIGITS + 2;
 
 // Room for the longest line of hex.
 const LINE: usize = 65536;
 
-// What reading a field finds: so many octets at the front of the buffer, the end of the file, or something else.
-#[derive(Clone, Copy)]
-enum Field {
-    Octets(usize),
-    End,
-    Bad,
-}
+// Room for the longest key.
+const KEY: usize = 256;
 
-// How many vectors were run and how many came out equal, and whether there may be more.
-#[derive(Clone, Copy)]
-struct Tally {
-    run: u64,
-    equal: u64,
-    more: bool,
-}
+// The most vectors that are run one after another.
+const VECTORS: u64 = 1000000;
 
-impl Tally {
-    fn new() -> Self {
-        Self {
-            run: 0,
-            equal: 0,
-            more: true,
-        }
-    }
+// RFC 3548, section 7: octets, and their base64.
+const EXAMPLES: [(&[u8], &[u8]); 3] = [
+    (b"\x14\xfb\x9c\x03\xd9\x7e", b"FPucA9l+"),
+    (b"\x14\xfb\x9c\x03\xd9", b"FPucA9k="),
+    (b"\x14\xfb\x9c\x03", b"FPucAw=="),
+];
 
-    fn ended(mut self) -> Self {
-        self.more = false;
-        self
-    }
-
-    // One vector more; one that differs is named on a line of its own.
-    fn count(mut self, rt: &impl Print, is_equal: bool) -> io::Result<Self> {
-        self.run = plus(self.run, 1);
-        if is_equal {
-            self.equal = plus(self.equal, 1);
-        } else {
-            let run = self.run;
-            println!(rt; "differs: {run}")?;
-        }
-        Ok(self)
-    }
-
-    // A file that is not as it should be: one vector that differs, and no more.
-    fn bad(self, rt: &impl Print) -> io::Result<Self> {
-        let counted = self.count(rt, false)?;
-        Ok(counted.ended())
-    }
-
-    fn report(self, rt: &impl Print, name: &str) -> io::Result<()> {
-        let run = self.run;
-        let equal = self.equal;
-        println!(rt; "{name}: {run} run, {equal} equal")
-    }
-}
-
-fn digit(c: u8) -> u8
+// The value of a hex digit. Anything else counts as 0, and so do capitals, which `char::to_digit` would read.
+fn digit(octet: u8) -> u8
     ensures { result < 16 }
 {
-    match c {
-        b'0'..=b'9' => c - b'0',
-        b'a'..=b'f' => c - b'a' + 10,
+    match octet {
+        b'0'..=b'9' => octet - b'0',
+        b'a'..=b'f' => octet - b'a' + 10,
         _ => 0,
     }
 }
 
-// The number of eight decimal digits at a place.
-fn number(s: &[u8], at: usize) -> usize
-    requires { at + 8 ≤ length s.now }
-    ensures { result < 2000000000 }
+// The number of at most eight decimal digits.
+fn number(digits: &[u8]) -> usize
+    requires { length digits.now ≤ DIGITS }
+    ensures { result < 2 * 10 ^ DIGITS }
 {
-    let mut n: usize = 0;
-    let mut i: usize = 0;
-    while i < 8 {
-        n = n % 100000000 * 10 + digit(s[at + i]) as usize;
-        i += 1;
+    let mut number = 0;
+    for octet in digits {
+        number = number * 10 + usize::from(digit(*octet));
     }
-    n
+    number
 }
 
-// The n octets that a line of hex spells.
-fn unhex(text: &[u8], out: &mut [u8], n: usize)
-    requires { (2 * n ≤ length text.now) × (n ≤ length out.old) }
-{
-    let mut i: usize = 0;
-    while i < n {
-        out[i] = digit(text[2 * i]) * 16 + digit(text[2 * i + 1]);
-        i += 1;
+// The octets that a line of hex spells.
+fn unhex(line: &[u8], out: &mut [u8]) {
+    for (octet, pair) in out.iter_mut().zip(line.chunks_exact(2)) {
+        *octet = digit(pair[0]) * 16 + digit(pair[1]);
     }
 }
 
-// The first n octets again and again, up to the end.
-fn repeat(out: &mut [u8], n: usize, end: usize)
-    requires { end ≤ length out.old }
-{
-    let mut i = n;
-    while i < end {
-        out[i] = out[i - n];
-        i += 1;
+// Fills buf, or says that the file ends before.
+fn fill(file: &mut File, buf: &mut [u8]) -> io::Result<bool> {
+    match file.read_exact(buf) {
+        Ok(()) => Ok(true),
+        Err(error) if error.kind() == io::ErrorKind::UnexpectedEof => Ok(false),
+        Err(error) => Err(error),
     }
 }
 
-// Fills buf, as far as the file goes, and says how many octets were read.
-fn read_full(file: &mut File, buf: &mut [u8]) -> io::Result<usize>
-    ensures { IfOk result (λ n. n ≤ length buf.new) }
-{
-    let mut at: usize = 0;
-    while at < buf.len() {
-        let got = file.read(&mut buf[at..])?;
-        if got == 0 {
-            return Ok(at);
+// The fields of a file, and room for a line of it.
+#[derive(Drop)]
+struct Fields {
+    file: File,
+    line: [u8; LINE],
+}
+
+impl Fields {
+    // Where the file cannot be opened, that is said.
+    fn open<R: Files<File = File> + Eprint>(rt: &R, name: &str) -> io::Result<Self> {
+        match File::open(rt, name) {
+            Ok(file) => Ok(Self {
+                file,
+                line: [0; LINE],
+            }),
+            Err(error) => {
+                eprintln!(rt; "{name}: {error}")?;
+                Err(error)
+            }
         }
-        at += got;
     }
-    Ok(at)
-}
 
-// Reads a field into out: how often, how many octets, and the octets in hex, by way of line.
-fn read_field(file: &mut File, line: &mut [u8], out: &mut [u8]) -> io::Result<Field> {
-    let mut head = [0u8; HEAD];
-    let got = read_full(file, &mut head)?;
-    if got == 0 {
-        return Ok(Field::End);
-    }
-    let times = number(&head, 0);
-    let n = number(&head, 9);
-    let size = 2 * n + 1;
-    if line.len() < size {
-        return Ok(Field::Bad);
-    }
-    if read_full(file, &mut line[..size])? < size {
-        return Ok(Field::Bad);
-    }
-    let end = times * n;
-    if out.len() < n {
-        return Ok(Field::Bad);
-    }
-    if out.len() < end {
-        return Ok(Field::Bad);
-    }
-    unhex(line, out, n);
-    repeat(out, n, end);
-    Ok(Field::Octets(end))
-}
-
-// Whether a and b start with the same n octets.
-fn start_same(a: &[u8], b: &[u8], n: usize) -> bool {
-    if a.len() < n {
-        return false;
-    }
-    if b.len() < n {
-        return false;
-    }
-    octets::same(&a[..n], &b[..n])
-}
-
-// Whether the digest of the first n octets of m is what is wanted.
-fn digests(m: &[u8], n: usize, want: &[u8]) -> bool {
-    if m.len() < n {
-        return false;
-    }
-    let mut got = [0u8; 32];
-    let r = sha256::sha256(&m[..n], &mut got);
-    r.no == 0 && octets::same(&got, want)
-}
-
-// Whether the code of a text under a key starts with the w octets that are wanted.
-fn codes(key: &[u8], n: usize, text: &[u8], k: usize, want: &[u8], w: usize) -> bool {
-    if key.len() < n {
-        return false;
-    }
-    if text.len() < k {
-        return false;
-    }
-    let mut got = [0u8; 32];
-    let r = hmac::hmac(&key[..n], &text[..k], &mut got);
-    r.no == 0 && 16 <= w && start_same(&got, want, w)
-}
-
-// The last two digests of three, and a new one.
-fn slide(m: &mut [u8], d: &[u8])
-    requires { (length m.old ≡ 96) × (length d.now ≡ 32) }
-{
-    let mut i: usize = 0;
-    while i < 96 {
-        if i < 64 {
-            m[i] = m[i + 32];
-        } else {
-            m[i] = d[i - 64];
+    // The octets of the next field, in out; or nothing, where no whole field follows, or none that there is room for.
+    fn read<'a>(&mut self, out: &'a mut [u8]) -> io::Result<Option<&'a [u8]>>
+        ensures { IfOk result (λ field. IfSome field (λ octets. length octets.now ≤ length out.old)) }
+    {
+        let mut head = [0; HEAD];
+        if !fill(&mut self.file, &mut head)? {
+            return Ok(None);
         }
-        i += 1;
+        let times = number(&head[..DIGITS]);
+        let count = number(&head[DIGITS + 1..HEAD - 1]);
+        let Some(line) = self.line.get_mut(..2 * count + 1) else {
+            return Ok(None);
+        };
+        if !fill(&mut self.file, line)? {
+            return Ok(None);
+        }
+        let end = times * count;
+        if out.len() < count.max(end) {
+            return Ok(None);
+        }
+        unhex(line, &mut out[..count]);
+        // The same octets, as often as is said.
+        for at in count..end {
+            out[at] = out[at - count];
+        }
+        Ok(Some(&out[..end]))
     }
+}
+
+// The digest of a message, where it is not too long.
+fn digest(message: &[u8]) -> Option<[u8; DIGEST]>
+    ensures { SomeIff result (length message.now ≤ LIMIT) (sha256_of message.now) }
+{
+    let mut out = [0; DIGEST];
+    sha256::sha256(message, &mut out).is_ok().then_some(out)
+}
+
+// The code of a text under a key, where neither is too long.
+fn code(key: &[u8], text: &[u8]) -> Option<[u8; DIGEST]>
+    ensures { SomeIff result ((length key.now ≤ LIMIT) × (length text.now ≤ LIMIT)) (hmac_of key.now text.now) }
+{
+    let mut out = [0; DIGEST];
+    hmac::hmac(key, text, &mut out).is_ok().then_some(out)
 }
 
 // The Monte Carlo test: from a seed, a thousand times the digest of the last three digests.
-fn chain(seed: &mut [u8])
-    requires { length seed.old ≡ 32 }
-{
-    let mut space = [0u8; 96];
-    let m: &mut [u8] = &mut space;
-    m[..32].copy_from_slice(seed);
-    repeat(m, 32, 96);
-    let mut i: usize = 0;
-    while i < 1000 {
-        sha256::sha256(m, seed);
-        slide(m, seed);
-        i += 1;
+fn thousandth(seed: [u8; DIGEST]) -> [u8; DIGEST] {
+    let mut last = [seed; 3];
+    for _ in 0..1000 {
+        let next = digest(last.as_flattened()).unwrap();
+        last = [last[1], last[2], next];
+    }
+    last[2]
+}
+
+// Why no vector was run.
+#[derive(Clone, Copy)]
+enum Stop {
+    // There are no more.
+    End,
+
+    // One breaks off, or has a field that there is no room for.
+    Broken,
+
+    // The file cannot be read.
+    Unread(io::Error),
+}
+
+impl From<io::Error> for Stop {
+    fn from(error: io::Error) -> Self {
+        Stop::Unread(error)
     }
 }
 
-// A vector of SHA-256: a message, and its digest.
-fn sha256_vector(
-    rt: &impl Print,
-    file: &mut File,
-    line: &mut [u8],
-    m: &mut [u8],
-    t: Tally,
-) -> io::Result<Tally> {
-    let Field::Octets(n) = read_field(file, line, m)? else {
-        return Ok(t.ended());
-    };
-    let mut want = [0u8; 32];
-    let Field::Octets(_) = read_field(file, line, &mut want)? else {
-        return t.bad(rt);
-    };
-    t.count(rt, digests(m, n, &want))
+// A vector of SHA-256: a message, and its digest. The three kinds of vectors have functions of their own, since they read one, two and three fields.
+fn sha256_vector(fields: &mut Fields, room: &mut [u8]) -> Result<bool, Stop> {
+    let message = fields.read(room)?.ok_or(Stop::End)?;
+    let mut want = [0; DIGEST];
+    fields.read(&mut want)?.ok_or(Stop::Broken)?;
+    Ok(digest(message) == Some(want))
 }
 
 // A vector of the Monte Carlo test: the digest a thousand on from the one before.
-fn monte_vector(
-    rt: &impl Print,
-    file: &mut File,
-    line: &mut [u8],
-    seed: &mut [u8],
-    t: Tally,
-) -> io::Result<Tally>
-    requires { length seed.old ≡ 32 }
-{
-    let mut want = [0u8; 32];
-    let Field::Octets(_) = read_field(file, line, &mut want)? else {
-        return Ok(t.ended());
-    };
-    chain(seed);
-    t.count(rt, octets::same(seed, &want))
+fn monte_vector(fields: &mut Fields, seed: &mut [u8; DIGEST]) -> Result<bool, Stop> {
+    let mut want = [0; DIGEST];
+    fields.read(&mut want)?.ok_or(Stop::End)?;
+    *seed = thousandth(*seed);
+    Ok(*seed == want)
 }
 
-// A vector of HMAC: a key, a text, and the code or its first octets.
-fn hmac_vector(
-    rt: &impl Print,
-    file: &mut File,
-    line: &mut [u8],
-    text: &mut [u8],
-    t: Tally,
-) -> io::Result<Tally> {
-    let mut key = [0u8; 256];
-    let Field::Octets(n) = read_field(file, line, &mut key)? else {
-        return Ok(t.ended());
-    };
-    let Field::Octets(k) = read_field(file, line, text)? else {
-        return t.bad(rt);
-    };
-    let mut want = [0u8; 32];
-    let Field::Octets(w) = read_field(file, line, &mut want)? else {
-        return t.bad(rt);
-    };
-    t.count(rt, codes(&key, n, text, k, &want, w))
-}
-
-// A file to read; where it cannot be opened, that is said.
-fn open<R: Files<File = File> + Eprint>(rt: &R, name: &str) -> io::Result<File> {
-    match File::open(rt, name) {
-        Ok(file) => Ok(file),
-        Err(error) => {
-            eprintln!(rt; "{name}: {error}")?;
-            Err(error)
-        }
-    }
-}
-
-// All vectors of a file, at most a million.
-fn sha256_file(
-    rt: &impl Print,
-    mut file: File,
-    name: &str,
-    line: &mut [u8],
-    m: &mut [u8],
-) -> io::Result<()> {
-    let mut t = Tally::new();
-    let mut turns: usize = 1000000;
-    while 0 < turns && t.more {
-        t = sha256_vector(rt, &mut file, line, m, t)?;
-        turns -= 1;
-    }
-    t.report(rt, name)
-}
-
-fn monte_file(rt: &impl Print, mut file: File, name: &str, line: &mut [u8]) -> io::Result<()> {
-    let mut space = [0u8; 32];
-    let seed: &mut [u8] = &mut space;
-    read_field(&mut file, line, seed)?;
-    let mut t = Tally::new();
-    let mut turns: usize = 1000000;
-    while 0 < turns && t.more {
-        t = monte_vector(rt, &mut file, line, seed, t)?;
-        turns -= 1;
-    }
-    t.report(rt, name)
-}
-
-fn hmac_file(
-    rt: &impl Print,
-    mut file: File,
-    name: &str,
-    line: &mut [u8],
-    m: &mut [u8],
-) -> io::Result<()> {
-    let mut t = Tally::new();
-    let mut turns: usize = 1000000;
-    while 0 < turns && t.more {
-        t = hmac_vector(rt, &mut file, line, m, t)?;
-        turns -= 1;
-    }
-    t.report(rt, name)
-}
-
-// Room for the longest message.
-fn room() -> [u8; 1048576]
-    ensures { 1048576 ≡ length result }
-{
-    [0; 1048576]
+// A vector of HMAC: a key, a text, and the code, or its first octets, of which there are 16 at least.
+fn hmac_vector(fields: &mut Fields, room: &mut [u8]) -> Result<bool, Stop> {
+    let mut key_room = [0; KEY];
+    let key = fields.read(&mut key_room)?.ok_or(Stop::End)?;
+    let text = fields.read(room)?.ok_or(Stop::Broken)?;
+    let mut want_room = [0; DIGEST];
+    let want = fields.read(&mut want_room)?.ok_or(Stop::Broken)?;
+    Ok(16 <= want.len() && code(key, text).is_some_and(|code| code.starts_with(want)))
 }
 
 // Whether base64 of at most six octets is that text.
-fn is_base64(s: &[u8], text: &[u8]) -> bool {
-    if 6 < s.len() {
+fn is_base64(octets: &[u8], text: &[u8]) -> bool
+    ensures { IsTrue result ↔ ((length octets.now ≤ 6) × (base64 octets.now ≡ text.now)) }
+{
+    if 6 < octets.len() {
         return false;
     }
-    let mut out = [0u8; 8];
-    let n = btid::put_base64(s, &mut out);
-    octets::same(&out[..n], text)
+    let mut out = [0; 8];
+    let count = btid::put_base64(octets, &mut out);
+    &out[..count] == text
 }
 
-// RFC 3548, section 7: its own examples.
-fn base64_examples(rt: &impl Print) -> io::Result<()> {
-    let one = Tally::new().count(rt, is_base64(b"\x14\xfb\x9c\x03\xd9\x7e", b"FPucA9l+"))?;
-    let two = one.count(rt, is_base64(b"\x14\xfb\x9c\x03\xd9", b"FPucA9k="))?;
-    let three = two.count(rt, is_base64(b"\x14\xfb\x9c\x03", b"FPucAw=="))?;
-    three.report(rt, "RFC3548")
+// How many vectors were run, and how many came out equal.
+#[derive(Drop)]
+struct Tally {
+    run: u64,
+    equal: u64,
+    ghost within: { equal ≤ run },
+}
+
+impl Tally {
+    fn new() -> Self
+        ensures { result.run ≡ 0 }
+    {
+        Self { run: 0, equal: 0 }
+    }
+
+    // One vector more; one that differs is named on a line of its own.
+    fn count(&mut self, rt: &impl Print, is_equal: bool) -> io::Result<()>
+        requires { self.old.run < VECTORS }
+        ensures run { self.new.run ≡ self.old.run + 1 }
+        ensures equal { self.new.equal ≡ (if is_equal then self.old.equal + 1 else self.old.equal) }
+    {
+        self.run += 1;
+        if is_equal {
+            self.equal += 1;
+            return Ok(());
+        }
+        println!(rt; "differs: {}", self.run)
+    }
+}
+
+impl fmt::Display for Tally {
+    fn fmt<W: fmt::Write>(&self, f: &mut fmt::Formatter<W>) -> fmt::Result {
+        write!(f, "{} run, {} equal", self.run, self.equal)
+    }
+}
+
+// Runs one vector after another, and reports them. One that breaks off counts as one that differs.
+fn run_all<F: FnMut() -> Result<bool, Stop>>(
+    rt: &impl Print,
+    name: &str,
+    mut vector: F,
+) -> io::Result<()>
+    requires { F.IsAlwaysCallable vector }
+{
+    let mut tally = Tally::new();
+    for _turn in 0..VECTORS {
+        match vector() {
+            Ok(is_equal) => tally.count(rt, is_equal)?,
+            Err(Stop::End) => break,
+            Err(Stop::Broken) => {
+                tally.count(rt, false)?;
+                break;
+            }
+            Err(Stop::Unread(error)) => return Err(error),
+        }
+    }
+    println!(rt; "{name}: {tally}")
 }
 
 fn main(rt: HostRuntime) -> io::Result<()> {
-    let mut hex = [0u8; LINE];
-    let line: &mut [u8] = &mut hex;
-    let mut space = room();
-    let m: &mut [u8] = &mut space;
-    let short = open(&rt, "SHA256ShortMsg")?;
-    sha256_file(&rt, short, "SHA256ShortMsg", line, m)?;
-    let long = open(&rt, "SHA256LongMsg")?;
-    sha256_file(&rt, long, "SHA256LongMsg", line, m)?;
-    let examples = open(&rt, "SHA256Examples")?;
-    sha256_file(&rt, examples, "SHA256Examples", line, m)?;
-    let monte = open(&rt, "SHA256Monte")?;
-    monte_file(&rt, monte, "SHA256Monte", line)?;
-    let codes = open(&rt, "RFC4231")?;
-    hmac_file(&rt, codes, "RFC4231", line, m)?;
-    base64_examples(&rt)
+    // Room for the longest message.
+    let mut room = [0; sha256::LIMIT];
+    for name in ["SHA256ShortMsg", "SHA256LongMsg", "SHA256Examples"] {
+        let mut fields = Fields::open(&rt, name)?;
+        run_all(&rt, name, || sha256_vector(&mut fields, &mut room))?;
+    }
+    let mut seed = [0; DIGEST];
+    let mut chain = Fields::open(&rt, "SHA256Monte")?;
+    chain.read(&mut seed)?;
+    run_all(&rt, "SHA256Monte", || monte_vector(&mut chain, &mut seed))?;
+    let mut codes = Fields::open(&rt, "RFC4231")?;
+    run_all(&rt, "RFC4231", || hmac_vector(&mut codes, &mut room))?;
+    let mut examples = EXAMPLES.iter();
+    run_all(&rt, "RFC3548", || {
+        let (octets, text) = examples.next().ok_or(Stop::End)?;
+        Ok(is_base64(octets, text))
+    })
 }

@@ -1,9 +1,10 @@
--- The name as a text, or an empty text.
-use Rattle.answer.proofs.Laws.{identity-shown, identity-withheld}
+-- A name as a text, or the empty text.
+use Rattle.answer.specs.Answer.{identity_by}
+use Rattle.flow.specs.Front.{◌▹◌}
+use Rattle.line.specs.Number.{encode_in}
+use Rattle.flow.specs.Choice.{pick}
 use Rattle.answer.proofs.put_identity_at.Goals as goal
 
-pub returns-then-shown : goal.returns-then-shown
-returns-then-shown c = identity-shown _ _ _ _ _ _ c.if-shown.true c.put_name_at.ensures
-
-pub returns : goal.returns
-returns c = identity-withheld _ _ _ _ _ _ c.if-shown.false c.put_octet_at.ensures
+pub returns-in-None-clause-put : goal.returns-in-None-clause-put
+unfolding identity_by ◌▹◌ encode_in pick
+returns-in-None-clause-put c = rw c.in-None.is c.put_octet_at.ensures

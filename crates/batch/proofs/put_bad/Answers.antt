@@ -5,4 +5,4 @@ use native.Mathlib.Omega.{arith}
 use Rattle.batch.proofs.put_bad.Goals as goal
 
 pub overflow_add-result : goal.overflow_add-result
-overflow_add-result c = omega (arith, c.put_line-written.ensures.count, line-long c.args.place 3 [])
+overflow_add-result c = omega (arith, c.put_line.ensures.count, line-long c.args.place c.into.result [])

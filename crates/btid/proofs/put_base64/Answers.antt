@@ -1,28 +1,33 @@
--- The invariant: the letters of the groups so far stand in front, and the letters of the whole are these and those of the octets left.
-use Prim.Native.Nat.{◌+◌, ◌≤◌}
-use native.Mathlib.Omega.{arith}
-use lib.ListN.{length, drop, length-take, length-drop}
-use Rattle.btid.proofs.Laws.{going_none, going_room, going_next, going_more, going_done}
-use Rattle.btid.specs.Base64.{base64}
+-- Each group that comes stands at the front of what is left, and its letters go after those that were written.
+use Rattle.std.proofs.Common.{◌≡◌, length, min, subst, ap, ◌∙◌}
+use Rattle.std.specs.Slice.Iter.{chunks_rest}
+use Rattle.flow.proofs.Fronts.{put_as}
+use Rattle.btid.proofs.Laws.{Going, going_none, going_room, going_more, going_done}
 use Rattle.btid.proofs.put_base64.Goals as goal
-use Rattle.btid.proofs.put_base64.Goals.{After-loop-from, In-loop-from}
 
-next : (c : In-loop-from) → c.loop-from.at + 4 ≤ length c.loop-from.out
-next c = going_next _ _ _ _ _ c.loop-from.invariant c.requires c.loop-from-test.true
+pub loop-group-init : goal.loop-group-init
+loop-group-init c =
+    let s = c.args.s.now in
+    let out = c.args.out.now in
+    let left : s ≡ chunks_rest c.into_iter-group-iterator.result = cc in
+    record { size = cc; going = subst (λ rest. Going s rest out out 0) left (going_none s out) }
 
-left : (c : After-loop-from)
-    → c.loop-from.at + length (base64 (drop c.loop-from.from c.args.s.now)) ≤ length c.loop-from.out
-left c = going_room _ _ _ _ _ c.loop-from.invariant c.requires
+pub put_octets_at-at-requires : goal.put_octets_at-at-requires
+put_octets_at-at-requires c =
+    let i = c.loop-group.invariant in
+    let h = c.in-Some.ensures.steps in
+    let size = h.1.1 ∙ ap (λ n. min n (length (chunks_rest c.loop-group.group-iterator))) i.size in
+    rw c.letters_of.ensures (going_room _ _ _ _ _ i.going _ _ h.1.0 size h.1.2 c.requires)
 
-pub loop-from-init : goal.loop-from-init
-loop-from-init c = going_none _ _
-
-pub put_three-at-requires : goal.put_three-at-requires
-put_three-at-requires c = simp (length-take, length-drop) (omega (arith, next (goal.at.put_three-at-requires c).In-loop-from))
-
-pub loop-from-preserved : goal.loop-from-preserved
-loop-from-preserved c =
-    going_more _ _ _ _ _ c.loop-from.invariant _ _ c.loop-from-test.true c.put_three-at.ensures c.out-1.given.1
+pub loop-group-preserved : goal.loop-group-preserved
+loop-group-preserved c =
+    let i = c.loop-group.invariant in
+    let h = c.in-Some.ensures.steps in
+    let size = h.1.1 ∙ ap (λ n. min n (length (chunks_rest c.loop-group.group-iterator))) i.size in
+    record {
+      size = h.0 ∙ i.size;
+      going = going_more _ _ _ _ _ i.going _ _ h.1.0 size h.1.2 _ _ (put_as _ _ _ _ _ _ c.letters_of.ensures c.put_octets_at-at.ensures);
+    }
 
 pub returns : goal.returns
-returns c = going_done _ _ _ _ _ c.loop-from.invariant _ _ c.put_last.ensures
+returns c = going_done _ _ _ _ _ c.loop-group.invariant.going c.in-None.ensures.steps.1.0

@@ -1,11 +1,11 @@
--- The invariant: the letters of the groups so far stand in front, and the letters of the whole are these and those of the octets left.
-use Prim.Native.Nat.{◌-◌}
-use lib.ListN.{length}
+-- The letters of the groups so far stand in front, and the letters of the whole are these and those of the octets left.
+use Rattle.std.proofs.Common.{◌≡◌}
+use Rattle.std.specs.Slice.Iter.{chunks_rest, chunks_size}
 use Rattle.btid.proofs.Laws.{Going}
 use Rattle.btid.proofs.put_base64.Given as goal
 
-abbrev pub invariant-loop-from : goal.invariant-loop-from
-invariant-loop-from l = Going l.s l.initial.out l.out l.from l.at
-
-abbrev pub decreases-loop-from : goal.decreases-loop-from
-decreases-loop-from l = length l.s - l.from
+abbrev pub invariant-loop-group : goal.invariant-loop-group
+invariant-loop-group l = record {
+  size : chunks_size l.group-iterator ≡ 3;
+  going : Going l.s (chunks_rest l.group-iterator) l.initial.out l.out l.at;
+}

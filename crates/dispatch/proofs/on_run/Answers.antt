@@ -1,33 +1,28 @@
--- The run is one of this opening, and open; what comes for it has its own proof.
-use mathlib.Core.Path.{refl, sym, ap, ◌∙◌}
-use Rattle.flow.proofs.Chains.{stops_other, stops_missing, passes-equal, passes_found}
-use Rattle.event.specs.Meaning.{act_means}
-use Rattle.outcome.proofs.Laws.{met_stage}
-use Rattle.outcome.proofs.Turns.{taken-refusal, run-found}
-use Rattle.rules.specs.Server.{act_rule, run_rule}
+-- Each refusal is a line of the rule; then the run is found, and what comes for it decides.
+use mathlib.Core.Path.{◌≡◌, refl}
+use native.Mathlib.Omega.{arith}
+use Rattle.std.proofs.Common.{Some, None}
+use Rattle.std.proofs.lemmas.Result.{err_from_is_err_and}
+use Rattle.flow.specs.declared.Refusal.TheVariants.{Stale}
+use Rattle.flow.proofs.Chains.{stops_other, passes-equal, stops_missing, passes_found}
+use Rattle.outcome.proofs.Laws.{left_refused, left_stage}
+use Rattle.rules.specs.Server.{run_rule}
 use Rattle.dispatch.proofs.on_run.Goals as goal
 
-pub returns-then-v-seen : goal.returns-then-v-seen
+pub returns-then-v-state : goal.returns-then-v-state
 unfolding run_rule
-returns-then-v-seen c =
-    let z = c.args in
-    λ s x y k f g h p.
-    taken-refusal s x y _ k _ _ _ _ c.refused.ensures (stops_other _ _ z.v.restart s.restart (λ e. c.if-v-seen.true (e ∙ sym k.restart_is)))
+returns-then-v-state c = left_refused _ _ _ Stale (stops_other _ _ _ _ c.if-v-state.true)
 
-pub returns-then-seen-ge-RUNS : goal.returns-then-seen-ge-RUNS
+pub returns-in_err-place : goal.returns-in_err-place
 unfolding run_rule
-returns-then-seen-ge-RUNS c =
-    let z = c.args in
-    λ s x y k f g h p.
-    taken-refusal s x y _ k _ _ _ _ c.refused-then-seen-ge-RUNS.ensures
-    (passes-equal _ _ _ z.v.restart s.restart (c.if-v-seen.false ∙ k.restart_is) (stops_missing _ _ _ _ refl (f.none c.if-seen-ge-RUNS.true)))
+returns-in_err-place c =
+    let p = err_from_is_err_and c.from_residual.result c.from_residual.ensures.1 in
+    let e : c.open.result ≡ None = grind arith in
+    let n : c.in_err-place.field-0.0 ≡ Stale = grind arith in
+    rw (p.1, p.2, n) (left_refused _ _ _ Stale (passes-equal _ _ _ _ _ c.if-v-state.false (stops_missing _ _ c.open.result _ c.open.ensures e)))
 
 pub returns : goal.returns
 unfolding run_rule
 returns c =
-    let z = c.args in
-    λ s x y k f g h p.
-    let l = c.if-seen-ge-RUNS.false in
-    met_stage s _ _ _ _ _ (c.acts.ensures s x y z.v.run k l g h p)
-    (passes-equal _ _ _ z.v.restart s.restart (c.if-v-seen.false ∙ k.restart_is) (passes_found _ _ _ _ refl _ _ (f.here l)
-    (ap (λ r. act_rule s z.time z.v.run z.seen.own r (act_means z.body.now z.v.act)) (run-found s x y _ k l))))
+    let e : c.open.result ≡ Some c.in_ok-place.place = grind arith in
+    left_stage _ _ _ _ _ _ _ c.act.ensures (passes-equal _ _ _ _ _ c.if-v-state.false (passes_found _ _ c.open.result _ c.open.ensures _ _ e refl))

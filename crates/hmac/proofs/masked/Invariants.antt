@@ -1,13 +1,7 @@
--- After i turns the first i octets are masked.
-use mathlib.Core.Path.{◌≡◌}
-use Prim.Native.Nat.{◌-◌, ◌≤◌}
-use lib.ListN.{length, take, drop}
-use Rattle.blocks.specs.Blocks.{BLOCK}
+-- The octets that were passed are masked, and the others are as they were.
+use Rattle.std.proofs.Common.{◌≡◌, take, drop, ◌++◌}
 use Rattle.hmac.specs.Hmac.{masked}
 use Rattle.hmac.proofs.masked.Given as goal
 
-abbrev pub invariant-loop-i : goal.invariant-loop-i
-invariant-loop-i l = (l.i ≤ BLOCK) × (length l.r ≡ BLOCK) × (take l.i l.r ≡ take l.i (drop 0 (masked l.v l.b)))
-
-abbrev pub decreases-loop-i : goal.decreases-loop-i
-decreases-loop-i l = BLOCK - l.i
+abbrev pub invariant-loop-x : goal.invariant-loop-x
+invariant-loop-x l = l.x-items ≡ masked l.v (take l.x-index l.initial.x-items) ++ drop l.x-index l.initial.x-items

@@ -1,13 +1,12 @@
--- The invariant: the lengths passed are short, so whether any is long is whether any from here on is.
-use mathlib.Core.Path.{sym, ◌∙◌}
-use Rattle.kdf.proofs.Laws.{above_here, above_next, above_none}
+-- What `any` finds over the lengths.
+use Rattle.std.proofs.Common.{ltb, ◌∙◌, rules, tests}
+use Rattle.std.proofs.lemmas.Iterator.{YieldsList-from_slice}
+use Rattle.std.proofs.lemmas.Iterator.Search.{any_from_yields_List}
+use Rattle.kdf.specs.Encode.{LONGEST}
+use Rattle.kdf.proofs.Laws.{any_is}
 use Rattle.kdf.proofs.is_any_long.Goals as goal
 
-pub returns-then-lens-i-gt-LONGEST : goal.returns-then-lens-i-gt-LONGEST
-returns-then-lens-i-gt-LONGEST c = sym (c.loop-i.invariant ∙ above_here _ _ _ c.loop-i-test.true c.if-lens-i-gt-LONGEST.true)
-
-pub loop-i-preserved : goal.loop-i-preserved
-loop-i-preserved c = c.loop-i.invariant ∙ above_next _ _ _ c.loop-i-test.true c.if-lens-i-gt-LONGEST.false
-
 pub returns : goal.returns
-returns c = sym (c.loop-i.invariant ∙ above_none _ _ _ c.loop-i-test.false)
+returns c =
+    any_from_yields_List (ltb LONGEST) _ _ _ c.any.ensures.ran (YieldsList-from_slice c.args.lens.now cc) (λ x b q k. search (rules, tests))
+    ∙ any_is LONGEST c.args.lens.now

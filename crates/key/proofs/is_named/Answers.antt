@@ -1,32 +1,26 @@
--- Each branch is a part of the test; a text that starts otherwise is another's.
+-- Each part of the test decides; a text that starts otherwise is another's.
 use mathlib.Core.Path.{sym, ap, ◌∙◌}
-use mathlib.Core.Bool.{Bool, ◌&&◌, and-false}
-use lib.ListN.{get_or}
-use mir.Syntax.{w8}
-use mir.Val.{Fits}
-use Rattle.flow.proofs.Tests.{tests}
+use mathlib.Core.Bool.{Bool, ◌&&◌, and-false, true≢false}
+use Rattle.flow.proofs.Tests.{fails_told, holds_told}
 use Rattle.records.specs.Rows.{is_live}
-use Rattle.records.proofs.Laws.{session-rand_long}
 use Rattle.tables.specs.Tables.{is_named}
-use Rattle.key.proofs.Laws.{starts_otherwise}
-use native.Mathlib.Omega.{arith}
-use borrow.Author.Rules.{rules}
+use Rattle.key.proofs.is_named.Goals.{then-starts, else-starts}
 use Rattle.key.proofs.is_named.Goals as goal
 
-pub returns-else-starts : goal.returns-else-starts
+pub returns-then-is_live : goal.returns-then-is_live
 unfolding is_named
-returns-else-starts c =
-    let k : Fits w8 (get_or c.args.session.rand 0 0) = search rules in
-    let l : Fits w8 (get_or c.args.session.rand 1 0) = search rules in
-    let b = is_live c.args.time c.args.session in
-    let n = session-rand_long c.args.session _ c.well_formed.0 in
-    let h = starts_otherwise _ _ _ n (omega arith) (omega arith) (sym c.starts.ensures ∙ c.if-starts.false) in
-    sym (and-false b) ∙ ap (λ (o : Bool). b && o) h
+returns-then-is_live c =
+    elim c.if-starts.branch [
+      | then-starts w ↦ holds_told _ w.is_live.result _ _ w.is_live.ensures (sym w.value-is ∙ c.if-is_live.true) c.is_btid.ensures
+      | else-starts w ↦ absurd (true≢false (sym c.if-is_live.true ∙ w.value-is ∙ w.if-starts.false))
+    ]
 
-pub returns-then-session-time : goal.returns-then-session-time
+pub returns-else-is_live : goal.returns-else-is_live
 unfolding is_named
-returns-then-session-time c = search (tests, rules)
-
-pub returns : goal.returns
-unfolding is_named
-returns c = search (tests, rules)
+returns-else-is_live c =
+    elim c.if-starts.branch [
+      | then-starts w ↦ c.if-is_live.false ∙ fails_told _ w.is_live.result _ w.is_live.ensures (sym w.value-is ∙ c.if-is_live.false)
+      | else-starts w ↦
+          let b = is_live c.args.time c.args.session.now in
+          c.if-is_live.false ∙ sym (and-false b) ∙ ap (λ (o : Bool). b && o) (sym (c.starts.ensures.apart w.if-starts.false _))
+    ]

@@ -1,12 +1,12 @@
--- Nothing is required, or the entry is found, or it is not.
-use Rattle.key.proofs.Laws.{lacks-none, lacks-found, lacks-missing}
+-- Nothing is required, or the search decides.
+use mathlib.Core.Path.{ap, ◌∙◌}
+use mathlib.Core.Bool.{not}
+use borrow.Author.Tests.{eq-eqb}
+use Rattle.key.proofs.Laws.{lacks-none, lacks-told}
 use Rattle.key.proofs.lacks.Goals as goal
 
-pub returns-then-required-eq0 : goal.returns-then-required-eq0
-returns-then-required-eq0 c = lacks-none _ _ _ c.wide-required.ensures c.if-required-eq0.true
+pub returns-then-row-ne0 : goal.returns-then-row-ne0
+returns-then-row-ne0 c = lacks-told _ _ _ _ _ c.if-row-ne0.true c.from.ensures c.find.ensures c.is_none.ensures
 
-pub returns-in_default : goal.returns-in_default
-returns-in_default c = lacks-found _ _ _ c.wide-required.ensures c.if-required-eq0.false _ c.find.ensures _ c.in_default.is
-
-pub returns : goal.returns
-returns c = lacks-missing _ _ _ c.wide-required.ensures c.if-required-eq0.false _ c.find.ensures c.in-Nothing.is
+pub returns-else-row-ne0 : goal.returns-else-row-ne0
+returns-else-row-ne0 c = ap not (eq-eqb _ 0 c.if-row-ne0.false) ∙ lacks-none _ _ c.if-row-ne0.false

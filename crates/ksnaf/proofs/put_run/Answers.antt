@@ -1,8 +1,7 @@
 -- Four fields, each copied after the one before.
 use Rattle.flow.proofs.Fronts.{next-put}
-use Rattle.kdf.proofs.Laws.{front-copied}
+use Rattle.kdf.proofs.Laws.{copied-put, front-copied}
 use Rattle.ksnaf.specs.KsNaf.{P0}
-use Rattle.ksnaf.proofs.Laws.{copied-put}
 use Rattle.ksnaf.proofs.put_run.Goals as goal
 
 pub returns : goal.returns

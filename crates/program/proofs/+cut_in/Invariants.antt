@@ -1,4 +1,4 @@
--- The code takes the definition's own steps; the measure is how many octets the number may still have.
+-- The measure: how many octets the number may still have.
 use Rattle.program.proofs.+cut_in.Given as goal
 
 abbrev pub decreases-cut_in : goal.decreases-cut_in

@@ -1,4 +1,4 @@
--- The code takes the definition's own steps; the measure is how many rows are left.
+-- The measure: how many rows are left.
 use Rattle.program.proofs.+read_rows.Given as goal
 
 abbrev pub decreases-read_rows : goal.decreases-read_rows

@@ -24,13 +24,11 @@ put_octet_at-requires c = omega (arith, decimal_ends, shown_ends)
 
 pub returns : goal.returns
 returns c =
-    let blank-2 = c in
-    let number = blank-2 in
-    let blank = number in
-    let place = blank in
+    rw c.from.ensures at (
     next-put _ _ _ _ _ _ _ c.put_octet_at.ensures
     (next-put _ _ _ _ _ _ _ c.put_shown_at-e.ensures
-    (next-put _ _ _ _ _ _ _ blank-2.put_octet_at-d.ensures
-    (next-put _ _ _ _ _ _ _ number.put_decimal_at-c.ensures
-    (next-put _ _ _ _ _ _ _ blank.put_octet_at-b.ensures
-    (first-put _ _ _ _ place.put_decimal_at-a.ensures)))))
+    (next-put _ _ _ _ _ _ _ c.put_octet_at-d.ensures
+    (next-put _ _ _ _ _ _ _ c.put_decimal_at-c.ensures
+    (next-put _ _ _ _ _ _ _ c.put_octet_at-b.ensures
+    (first-put _ _ _ _ c.put_decimal_at-a.ensures)))))
+    )

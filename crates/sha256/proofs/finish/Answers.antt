@@ -14,7 +14,7 @@ use Rattle.sha256.proofs.finish.Goals as goal
 pub loop-i-preserved : goal.loop-i-preserved
 loop-i-preserved c =
     let l = c.loop-i in
-    (omega arith, omega arith, λ x e. c.compress-s.ensures ∙ one_more compress_of x l.s _ _ l.i (l.invariant.2 x e) c.last-b.ensures)
+    λ x e. c.compress-s.ensures ∙ one_more compress_of x l.s _ _ l.i (l.invariant x e) c.last-b.ensures
 
 pub returns : goal.returns
 unfolding all
@@ -23,7 +23,7 @@ returns c =
     let m = c.args.m.now in
     let p = padding HighFirst (c.args.before + length m) in
     let e : l.i ≡ (length m + LENGTH) / BLOCK + 1 = omega arith in
-    l.invariant.2 c.args.x (c.absorb-s.ensures ∙ blocks-front compress_of c.args.x m p (length m / BLOCK) (omega arith))
+    l.invariant c.args.x (c.absorb-s.ensures ∙ blocks-front compress_of c.args.x m p (length m / BLOCK) (omega arith))
     ∙ ap (blocks compress_of c.args.x (m ++ p)) (e ∙ count-is HighFirst m c.args.before c.requires.0)
 
 pub last-b-requires-clause-m_len_bound : goal.last-b-requires-clause-m_len_bound

@@ -1,23 +1,36 @@
--- After i turns the hash value is that after i blocks.
-use Rattle.std.proofs.Common.{◌≡◌, ℕ, ◌+◌, ◌-◌, ◌*◌, take, drop, refl, ap, ◌∙◌, arith, rules}
-use Rattle.blocks.specs.Blocks.{BLOCK, steps, blocks}
+-- Each block that comes is the next of m.
+use Rattle.std.proofs.Common.{◌≡◌, ℕ, ◌+◌, ◌*◌, List, ◌++◌, take, drop, length, refl, sym, ap, ◌∙◌, arith}
+use Rattle.std.proofs.lemmas.List.{take_at, drop_at, drop-drop, length_push}
+use Rattle.blocks.specs.Blocks.{BLOCK, steps, block_of, blocks}
 use Rattle.blocks.proofs.Blocks.{one_more}
-use Rattle.sha256_block.specs.Words.{K}
 use Rattle.sha256_block.specs.Compress.{compress_of}
 use Rattle.sha256_block.proofs.absorb.Goals as goal
 
-pub loop-i-init : goal.loop-i-init
+-- a block that stands at the front of what is left of m behind i blocks
+module _ (m b rest : List ℕ) (i : ℕ) (left : b ++ rest ≡ drop (BLOCK * i) m) (size : length b ≡ BLOCK) where
+  here : b ≡ block_of m i
+  here = sym (take_at b rest BLOCK size) ∙ ap (take BLOCK) left
+
+  behind : rest ≡ drop (BLOCK * (i + 1)) m
+  behind =
+      let e : BLOCK * i + BLOCK ≡ BLOCK * (i + 1) = omega arith in
+      sym (drop_at b rest BLOCK size) ∙ ap (drop BLOCK) left ∙ drop-drop BLOCK (BLOCK * i) m ∙ ap (λ (n : ℕ). drop n m) e
+
+pub loop-b-init : goal.loop-b-init
 unfolding blocks steps
-loop-i-init c = (search rules, refl)
+loop-b-init c = record { size = cc; left = cc; value = refl }
 
-pub block-s-requires : goal.block-s-requires
-unfolding K
-block-s-requires c = (refl, search rules)
-
-pub loop-i-preserved : goal.loop-i-preserved
-loop-i-preserved c =
-    let a = c.args in
-    let l = c.loop-i in
-    let e : BLOCK * l.i + BLOCK - BLOCK * l.i ≡ BLOCK = omega arith in
-    let b = ap (λ (n : ℕ). take n (drop (BLOCK * l.i) a.m.now)) e in
-    (omega arith, c.block-s.ensures ∙ one_more compress_of a.x l.s a.m.now _ l.i l.invariant.1 b)
+pub loop-b-preserved : goal.loop-b-preserved
+loop-b-preserved c =
+    let l = c.loop-b in
+    let m = c.args.m.now in
+    let i = length l.yielded in
+    let h = c.in-Some.ensures.steps.0 in
+    let split = sym h.1.0 ∙ l.invariant.left in
+    let size = h.1.1 ∙ l.invariant.size in
+    rw length_push
+    record {
+      size = h.0 ∙ l.invariant.size;
+      left = behind m _ _ i split size;
+      value = c.compress-s.ensures ∙ one_more compress_of _ _ _ _ _ l.invariant.value (here m _ _ i split size);
+    }

@@ -1,8 +1,7 @@
--- The constants are those of 4.2.2.
-use Rattle.std.proofs.Common.{refl, rules}
-use Rattle.sha256_block.specs.Words.{K}
+-- The sum of the hash value before and the working variables after all rounds.
+use Rattle.sha256_block.specs.Compress.{compress_of}
 use Rattle.sha256_block.proofs.compress.Goals as goal
 
-pub block-requires : goal.block-requires
-unfolding K
-block-requires c = (refl, search rules)
+pub returns : goal.returns
+unfolding compress_of
+returns c = cc

@@ -1,30 +1,29 @@
--- Each refusal is a line of the rule, in whatever state; what is offered and the run that is opened have their own proofs.
-use mathlib.Core.Path.{refl, ap}
+-- Each refusal is a line of the rule; what is answered stands in the buffer, and the run in its place.
+use Prim.Native.Nat.{◌+◌}
+use mathlib.Core.Path.{ap, ◌∙◌}
 use Rattle.limits.specs.Limits.{WORD}
-use Rattle.flow.proofs.Chains.{stops_missing, passes_found}
-use Rattle.outcome.proofs.Laws.{met_stage, stops_above, passes_below}
-use Rattle.outcome.proofs.Turns.{taken-refusal}
+use Rattle.flow.proofs.Chains.{passes_found}
+use Rattle.names.specs.declared.Name.{Name}
+use Rattle.records.specs.Rows.{started_run}
+use Rattle.tables.specs.State.{started}
+use Rattle.answer.specs.Answer.{encode_of}
+use Rattle.outcome.proofs.Laws.{rules, left_answered, passes_below}
 use Rattle.rules.specs.Start.{start_rule, opens}
-use native.Mathlib.Omega.{arith}
 use Rattle.start.proofs.start.Goals as goal
 
-pub returns-else-seen-lt-WORD : goal.returns-else-seen-lt-WORD
+pub returns-then-state-ge-WORD : goal.returns-then-state-ge-WORD
 unfolding start_rule
-returns-else-seen-lt-WORD c = λ s x y k f g.
-    taken-refusal s x y _ k _ _ _ _ c.refused.ensures (stops_above _ _ s.last WORD (omega (arith, k.last_is, c.if-seen-lt-WORD.false)))
+returns-then-state-ge-WORD c = search rules
 
-pub returns-then-seen-ge-RUNS : goal.returns-then-seen-ge-RUNS
+pub returns-in_default : goal.returns-in_default
 unfolding start_rule
-returns-then-seen-ge-RUNS c =
-    λ s x y k f g.
-    taken-refusal s x y _ k _ _ _ _ c.refused-then-seen-ge-RUNS.ensures
-    (passes_below _ _ s.last WORD _ (omega (arith, k.last_is, c.if-seen-lt-WORD.true)) (stops_missing _ _ _ _ refl (f.none c.if-seen-ge-RUNS.true)))
+returns-in_default c = search rules
 
 pub returns : goal.returns
-unfolding start_rule
+unfolding start_rule opens encode_of
 returns c =
-    let z = c.args in
-    λ s x y k f g.
-    met_stage s _ _ _ _ _ (c.opens.ensures s x y k c.if-seen-ge-RUNS.false)
-    (passes_below _ _ s.last WORD _ (omega (arith, k.last_is, c.if-seen-lt-WORD.true))
-    (passes_found _ _ _ _ refl _ _ (f.here c.if-seen-ge-RUNS.false) (ap (opens s z.time z.seen.own z.impi.now) (c.offered-copy.ensures s x y _ _ k g))))
+    let s = c.args.state.now in
+    let run = c.started-run.ensures ∙ ap (λ (m : Name). started_run (s.last + 1) c.args.time m c.offered_to-copy.result) c.of.ensures in
+    left_answered _ _ _ _ _ _ _ _ c.put_opened-len.ensures (c.start.ensures ∙ ap (started s c.args.time c.in-Some.place) run)
+    (passes_below _ _ _ WORD _ c.if-state-ge-WORD.false (passes_found _ _ _ _ c.free.ensures _ c.in-Some.place c.in-Some.is
+    (ap (opens s c.args.time c.in-Some.place c.args.impi.now) c.offered_to-copy.ensures)))

@@ -1,9 +1,6 @@
--- The number stays small.
-use Rattle.std.proofs.Common.{◌-◌, ◌<◌}
+-- The number stays below twice the power of ten that it has digits.
+use Rattle.std.proofs.Common.{◌+◌, ◌*◌, ◌^◌, ◌≤◌}
 use Rattle.vectors.proofs.number.Given as goal
 
-abbrev pub invariant-loop-i : goal.invariant-loop-i
-invariant-loop-i l = l.n < 2000000000
-
-abbrev pub decreases-loop-i : goal.decreases-loop-i
-decreases-loop-i l = 8 - l.i
+abbrev pub invariant-loop-octet : goal.invariant-loop-octet
+invariant-loop-octet l = l.number + 2 ≤ 2 * 10 ^ l.octet-index

@@ -1,17 +1,13 @@
--- The first i entries are scanned, and none of them passed.
-use mathlib.Core.Path.{sym, ◌∙◌}
-use Rattle.flow.proofs.Ends.{scan-next, scan-none, scan-here}
-use native.Mathlib.Omega.{arith}
+-- The search is the definition's.
+use Rattle.std.proofs.Common.{rules, tests}
+use Rattle.std.proofs.lemmas.Iterator.{YieldsList-from_slice}
+use Rattle.std.proofs.lemmas.Iterator.Search.{position_from_yields_List}
+use Rattle.flow.proofs.Positions.{by_position}
+use Rattle.records.specs.Settings.{is_entry}
 use Rattle.records.proofs.Settings.find.Goals as goal
-
-pub returns-then-is : goal.returns-then-is
-returns-then-is c =
-    sym (scan-here _ _ _ _ c.loop-i.invariant.0 c.loop-i.invariant.1 _ (omega arith) (sym c.is.ensures ∙ c.if-is.true))
-
-pub loop-i-preserved : goal.loop-i-preserved
-loop-i-preserved c =
-    (c.loop-i.invariant.0, scan-next _ _ _ _ c.loop-i.invariant.0 c.loop-i.invariant.1 _ (omega arith) (sym c.is.ensures ∙ c.if-is.false))
 
 pub returns : goal.returns
 returns c =
-    sym (scan-none _ _ _ _ c.loop-i.invariant.0 c.loop-i.invariant.1 (omega arith))
+    by_position _ _ _
+    (position_from_yields_List (is_entry c.args.application c.args.group) _ _ _ c.position.ensures.ran (YieldsList-from_slice c.args.self.now.entries cc)
+    (λ x b q k. search (rules, tests)))

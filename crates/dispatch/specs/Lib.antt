@@ -1,2 +1,0 @@
-pub mod Seeks
-pub mod Turns

@@ -1,0 +1,13 @@
+-- The search is the definition's.
+use Rattle.std.proofs.Common.{rules, tests}
+use Rattle.std.proofs.lemmas.Iterator.{YieldsList-from_slice}
+use Rattle.std.proofs.lemmas.Iterator.Search.{position_from_yields_List}
+use Rattle.flow.proofs.Positions.{by_position}
+use Rattle.tables.specs.Tables.{is_free, free_run}
+use Rattle.tables.proofs.Runs.free.Goals as goal
+
+pub returns : goal.returns
+unfolding free_run
+returns c =
+    by_position _ _ _
+    (position_from_yields_List (is_free c.args.time) _ _ _ c.position.ensures.ran (YieldsList-from_slice c.args.self.now.rows cc) (λ x b q k. search (rules, tests)))
