@@ -60,7 +60,7 @@ enum {
     PR_MESSAGE = 1048576,       /* the longest message and the longest key of HMAC */
     PR_PARAMETERS = 8,          /* the most parameters of a KDF string */
     PR_PARAMETER = 65535,       /* the longest of them */
-    PR_STACK = 524288           /* the stack that a caller keeps free; pr_event uses 116 KiB of it */
+    PR_STACK = 524288           /* the stack that a caller keeps free; pr_event uses 8 KiB of it */
 };
 
 /* The state of one server: runs, sessions and their keys. Zero-filled it is closed: every event on it is NOT OPEN. */

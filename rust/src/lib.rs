@@ -11,7 +11,7 @@
 //! # Ok::<(), pagerudder::Refusal>(())
 //! ```
 //!
-//! An event takes 116 KiB of the caller's stack, a batch 84, so give a thread [`STACK`] octets or more. (Rust gives its threads 2 MiB.)
+//! An event takes 8 KiB of the caller's stack, a batch 12; give a thread [`STACK`] octets or more. (Rust gives its threads 2 MiB.)
 //! A restart number must never be used twice for a server whose replies may still arrive.
 
 mod raw;
