@@ -73,21 +73,17 @@ fn fill(file: &mut File, buf: &mut [u8]) -> io::Result<bool> {
     }
 }
 
-// The fields of a file, and room for a line of it.
+// The fields of a file.
 #[derive(Drop)]
 struct Fields {
     file: File,
-    line: [u8; LINE],
 }
 
 impl Fields {
     // Where the file cannot be opened, that is said.
     fn open<R: Files<File = File> + Eprint>(rt: &R, name: &str) -> io::Result<Self> {
         match File::open(rt, name) {
-            Ok(file) => Ok(Self {
-                file,
-                line: [0; LINE],
-            }),
+            Ok(file) => Ok(Self { file }),
             Err(error) => {
                 eprintln!(rt; "{name}: {error}")?;
                 Err(error)
@@ -95,8 +91,8 @@ impl Fields {
         }
     }
 
-    // The octets of the next field, in out; or nothing, where no whole field follows, or none that there is room for.
-    fn read<'a>(&mut self, out: &'a mut [u8]) -> io::Result<Option<&'a [u8]>>
+    // The octets of the next field, in out, by way of a line; or nothing, where no whole field follows, or none that there is room for.
+    fn read<'a>(&mut self, line: &mut [u8], out: &'a mut [u8]) -> io::Result<Option<&'a [u8]>>
         ensures { IfOk result (λ field. IfSome field (λ octets. length octets.now ≤ length out.old)) }
     {
         let mut head = [0; HEAD];
@@ -105,7 +101,7 @@ impl Fields {
         }
         let times = number(&head[..DIGITS]);
         let count = number(&head[DIGITS + 1..HEAD - 1]);
-        let Some(line) = self.line.get_mut(..2 * count + 1) else {
+        let Some(line) = line.get_mut(..2 * count + 1) else {
             return Ok(None);
         };
         if !fill(&mut self.file, line)? {
@@ -170,28 +166,32 @@ impl From<io::Error> for Stop {
 }
 
 // A vector of SHA-256: a message, and its digest. The three kinds of vectors have functions of their own, since they read one, two and three fields.
-fn sha256_vector(fields: &mut Fields, room: &mut [u8]) -> Result<bool, Stop> {
-    let message = fields.read(room)?.ok_or(Stop::End)?;
+fn sha256_vector(fields: &mut Fields, line: &mut [u8], room: &mut [u8]) -> Result<bool, Stop> {
+    let message = fields.read(line, room)?.ok_or(Stop::End)?;
     let mut want = [0; DIGEST];
-    fields.read(&mut want)?.ok_or(Stop::Broken)?;
+    fields.read(line, &mut want)?.ok_or(Stop::Broken)?;
     Ok(digest(message) == Some(want))
 }
 
 // A vector of the Monte Carlo test: the digest a thousand on from the one before.
-fn monte_vector(fields: &mut Fields, seed: &mut [u8; DIGEST]) -> Result<bool, Stop> {
+fn monte_vector(
+    fields: &mut Fields,
+    line: &mut [u8],
+    seed: &mut [u8; DIGEST],
+) -> Result<bool, Stop> {
     let mut want = [0; DIGEST];
-    fields.read(&mut want)?.ok_or(Stop::End)?;
+    fields.read(line, &mut want)?.ok_or(Stop::End)?;
     *seed = thousandth(*seed);
     Ok(*seed == want)
 }
 
 // A vector of HMAC: a key, a text, and the code, or its first octets, of which there are 16 at least.
-fn hmac_vector(fields: &mut Fields, room: &mut [u8]) -> Result<bool, Stop> {
+fn hmac_vector(fields: &mut Fields, line: &mut [u8], room: &mut [u8]) -> Result<bool, Stop> {
     let mut key_room = [0; KEY];
-    let key = fields.read(&mut key_room)?.ok_or(Stop::End)?;
-    let text = fields.read(room)?.ok_or(Stop::Broken)?;
+    let key = fields.read(line, &mut key_room)?.ok_or(Stop::End)?;
+    let text = fields.read(line, room)?.ok_or(Stop::Broken)?;
     let mut want_room = [0; DIGEST];
-    let want = fields.read(&mut want_room)?.ok_or(Stop::Broken)?;
+    let want = fields.read(line, &mut want_room)?.ok_or(Stop::Broken)?;
     Ok(16 <= want.len() && code(key, text).is_some_and(|code| code.starts_with(want)))
 }
 
@@ -267,18 +267,34 @@ fn run_all<F: FnMut() -> Result<bool, Stop>>(
 }
 
 fn main(rt: HostRuntime) -> io::Result<()> {
-    // Room for the longest message.
+    // Room for a line of any file, and for the longest message.
+    let mut line = [0; LINE];
     let mut room = [0; sha256::LIMIT];
     for name in ["SHA256ShortMsg", "SHA256LongMsg", "SHA256Examples"] {
         let mut fields = Fields::open(&rt, name)?;
-        run_all(&rt, name, || sha256_vector(&mut fields, &mut room))?;
+        run_all(
+            &rt,
+            name,
+            || sha256_vector(&mut fields, &mut line, &mut room),
+        )?;
     }
-    let mut seed = [0; DIGEST];
-    let mut chain = Fields::open(&rt, "SHA256Monte")?;
-    chain.read(&mut seed)?;
-    run_all(&rt, "SHA256Monte", || monte_vector(&mut chain, &mut seed))?;
-    let mut codes = Fields::open(&rt, "RFC4231")?;
-    run_all(&rt, "RFC4231", || hmac_vector(&mut codes, &mut room))?;
+    // Each file is closed before the next is opened.
+    {
+        let mut seed = [0; DIGEST];
+        let mut fields = Fields::open(&rt, "SHA256Monte")?;
+        fields.read(&mut line, &mut seed)?;
+        run_all(
+            &rt,
+            "SHA256Monte",
+            || monte_vector(&mut fields, &mut line, &mut seed),
+        )?;
+    }
+    let mut fields = Fields::open(&rt, "RFC4231")?;
+    run_all(
+        &rt,
+        "RFC4231",
+        || hmac_vector(&mut fields, &mut line, &mut room),
+    )?;
     let mut examples = EXAMPLES.iter();
     run_all(&rt, "RFC3548", || {
         let (octets, text) = examples.next().ok_or(Stop::End)?;
