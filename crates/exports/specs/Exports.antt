@@ -1,4 +1,4 @@
--- What a caller from C or Rust sees. The state is lent: the state at exit and what is returned are together what the proved function by value hands back.
+-- What a caller from C or Rust sees. The state is lent: the state at exit and what is returned are together what a function makes of it.
 use Rattle.std.specs.Prelude.{ℕ, ◌+◌, ◌≤◌, ◌<◌, ◌^◌, ◌≡◌, List, length}
 use Rattle.flow.specs.declared.Reply.{Reply}
 use Rattle.tables.specs.declared.State.{State}

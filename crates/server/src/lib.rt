@@ -8,11 +8,12 @@ ghost use Rattle.shelves.specs.Shelf.{policy_as};
 ghost use Rattle.outcome.specs.Outcome.{Left};
 ghost use Rattle.rules.specs.Server.{step_of};
 ghost use Rattle.rules.specs.History.{event_of};
-ghost use Rattle.server.specs.Counts.{Counts};
+ghost use Rattle.server.specs.Counts.{Counts, AsksShelf};
 
 use event::{EventAt, KindAt};
 use flow::Refusal;
-use shelves::Row;
+use line::Span;
+use shelves::{Asked, Policy, Row};
 use tables::State;
 
 // The row of the shelf table that counts for an event, if it is a KEY: any other event has none, and its rule asks for none. The NAF_Id is the FQDN,
@@ -52,16 +53,36 @@ fn answer(
     dispatch::by_kind(state, row, event, body, out)
 }
 
-// What an event does, where the shelf table has this row for a KEY, or none.
+// Where a KEY names its peer and its FQDN, for a caller with a shelf table of its own; any other event asks for nothing there.
+pub fn asked(body: &[u8]) -> Asked
+    ensures { AsksShelf body.now result }
+{
+    let Some(event) = event::decode(body) else {
+        return Asked::none();
+    };
+    let KindAt::Key(v) = event.kind else {
+        return Asked::none();
+    };
+    Asked {
+        peer: v.peer,
+        fqdn: Span {
+            start: v.naf.start,
+            end: v.naf.end - limits::UA,
+        },
+    }
+}
+
+// What an event does, where a shelf table has said what it says to a KEY.
 pub fn step(
     state: &mut State,
-    row: Option<&Row>,
+    policy: Policy,
     body: &[u8],
     out: &mut [u8],
 ) -> Result<usize, Refusal>
-    ensures { Left state.old (step_of state.old (policy_as (option_copied row.entry)) (decoded body.now) (length out.old)) out.old state.new result out.new }
+    ensures { Left state.old (step_of state.old policy (decoded body.now) (length out.old)) out.old state.new result out.new }
 {
-    answer(state, row, event::decode(body), body, out)
+    let row = policy.row();
+    answer(state, row.as_ref(), event::decode(body), body, out)
 }
 
 // ---- The entry: one event on a state, with the shelf table lent as rows. Document 01, "Events and numbers on the line" to "What goes back".

@@ -21,4 +21,4 @@ pub returns : goal.returns
 returns c =
     let e = c.in_ok-v.field-0 in
     let d : decoded c.args.body.now ≡ Some (values_at c.args.body.now e) = sym c.requires.means ∙ ap (meaning c.args.body.now) c.in_ok-v.was in
-    λ s room. rw d (row_counts _ _ _ _ e.kind c.in-Key.v c.in-Key.is _ _ c.of.ensures c.of-naf.ensures c.lookup.ensures s room)
+    λ s room. rw d (row_counts _ _ _ _ e.kind c.in-Key.v c.in-Key.is _ _ c.of.ensures c.of-naf.ensures c.lookup.ensures.says s room)
