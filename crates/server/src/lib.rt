@@ -94,3 +94,16 @@ pub fn event(state: &mut State, rows: &[Row], body: &[u8], out: &mut [u8]) -> Re
     let event = event::decode(body);
     answer(state, row_for(rows, event, body), event, body, out)
 }
+
+// The same by value, for a caller that keeps its state so: the event takes the state, and hands the next one back.
+pub fn handed(
+    mut state: State,
+    rows: &[Row],
+    body: &[u8],
+    out: &mut [u8],
+) -> (State, Result<usize, Refusal>)
+    ensures { Left state (event_of state rows.now body.now (length out.old)) out.old result.0 result.1 out.new }
+{
+    let told = event(&mut state, rows, body, out);
+    (state, told)
+}

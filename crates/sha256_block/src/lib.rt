@@ -16,7 +16,7 @@ const ROUNDS: usize = 64;
 const TURN: usize = 8;
 
 // The round constants, FIPS 180-4 4.2.2.
-static K: [u32; ROUNDS] = [
+const K: [u32; ROUNDS] = [
     0x428a2f98, 0x71374491, 0xb5c0fbcf, 0xe9b5dba5, 0x3956c25b, 0x59f111f1, 0x923f82a4, 0xab1c5ed5,
     0xd807aa98, 0x12835b01, 0x243185be, 0x550c7dc3, 0x72be5d74, 0x80deb1fe, 0x9bdc06a7, 0xc19bf174,
     0xe49b69c1, 0xefbe4786, 0x0fc19dc6, 0x240ca1cc, 0x2de92c6f, 0x4a7484aa, 0x5cb0a9dc, 0x76f988da,
@@ -89,20 +89,18 @@ fn next(w: &[u32; ROUNDS], t: usize) -> u32
 }
 
 // The message schedule of a block.
-fn schedule(b: &[u8]) -> [u32; ROUNDS]
+fn schedule(b: &[u8], w: &mut [u32; ROUNDS])
     requires { length b.now ≡ BLOCK }
-    ensures { result ≡ W b.now }
+    ensures { w.new ≡ W b.now }
 {
-    let mut w = [0; ROUNDS];
     for t in 0..blocks::WORDS {
         w[t] = blocks::word(b, t);
     }
     for from in (blocks::WORDS..ROUNDS).step_by(TURN) {
         for t in from..from + TURN {
-            w[t] = next(&w, t);
+            w[t] = next(w, t);
         }
     }
-    w
 }
 
 fn round(s: Hash, k: u32, w: u32) -> Hash
@@ -132,9 +130,11 @@ fn rounds(x: Hash, w: &[u32; ROUNDS]) -> Hash
     ensures { result ≡ rounds w.now x ROUND_COUNT }
 {
     let mut s = x;
+    // Borrowed, since a const array that is named by itself is copied at each use.
+    let k = &K;
     for from in (0..ROUNDS).step_by(TURN) {
         for t in from..from + TURN {
-            s = round(s, K[t], w[t]);
+            s = round(s, k[t], w[t]);
         }
     }
     s
@@ -160,7 +160,9 @@ pub fn compress(x: Hash, b: &[u8]) -> Hash
     requires { length b.now ≡ BLOCK }
     ensures { result ≡ compress_of x b.now }
 {
-    sum(x, rounds(x, &schedule(b)))
+    let mut w = [0; ROUNDS];
+    schedule(b, &mut w);
+    sum(x, rounds(x, &w))
 }
 
 // The hash value after the first `count` blocks of m.

@@ -8,7 +8,7 @@ use Rattle.sha256_block.proofs.schedule.Goals as goal
 
 pub loop-t-init : goal.loop-t-init
 unfolding schedule
-loop-t-init c = record { room = refl; words = refl }
+loop-t-init c = record { room = omega arith; words = refl }
 
 pub loop-t-preserved : goal.loop-t-preserved
 loop-t-preserved c =
